@@ -1,0 +1,53 @@
+ghost use mathlib.Core.Path.{_≡_};
+ghost use Rattle.book.specs.Sets.{numbersOf};
+ghost use Rattle.book.specs.Books.{stateOf, readRow, readBooked, readSpare};
+use crate::faults::BookFault;
+use crate::ledger::Book;
+use crate::ledger::calls;
+use crate::rows;
+use crate::rows::Row;
+use crate::setup::Settings;
+
+impl Book {
+    pub fn settings(&self) -> Settings
+        ensures { λ r. ⌜ numbersOf r ≡ stateOf (now (self .entry)) .settings ⌝ }
+    {
+        self.settings
+    }
+
+    pub fn clock(&self) -> u64
+        ensures { λ r. ⌜ r ≡ stateOf (now (self .entry)) .clock ⌝ }
+    {
+        self.clock
+    }
+
+    pub fn row(&self, stream: u8) -> Result<Row, BookFault>
+        ensures { λ r. ⌜ r ≡ readRow (stateOf (now (self .entry))) stream ⌝ }
+    {
+        if stream > 127 {
+            return Err(BookFault::NotThere);
+        }
+        Ok(self.rows[stream as usize])
+    }
+
+    // The octets booked per cycle of a class.
+    pub fn booked(&self, class: u8) -> Result<u64, BookFault>
+        ensures { λ r. ⌜ r ≡ readBooked (stateOf (now (self .entry))) class ⌝ }
+    {
+        if class >= self.settings.class_count() {
+            return Err(BookFault::NotThere);
+        }
+        Ok(rows::booked(&self.rows, class))
+    }
+
+    // The ticks that the bookings leave of a class's cycle.
+    pub fn spare(&self, class: u8) -> Result<u64, BookFault>
+        ensures { λ r. ⌜ r ≡ readSpare (stateOf (now (self .entry))) class ⌝ }
+    {
+        if class >= self.settings.class_count() {
+            return Err(BookFault::NotThere);
+        }
+        let needed = calls::demand(&self.settings, &self.rows, class);
+        Ok(u64::from(self.settings.cycle(class)) - needed)
+    }
+}
