@@ -22,6 +22,7 @@ use Rattle.book.specs.declared.setup.Settings.{Settings}
 use Rattle.book.specs.Sets.{numbersOf}
 use Rattle.book.specs.Told.{SetNumbers, told, setFault, inNumber, withinLimits, enoughBins, allBelow, classFits, stepFits, phaseFits, serves, servesAll, wholeTimes, cycleIn, cycleOf, binsIn, binsOf, noClass, classCount, inputCount, slowest, shiftOf, Legal}
 use Rattle.book.proofs.Below.{below-each, below-from}
+use Rattle.book.proofs.Within.{none-from}
 
 -- The answer from the three tests.
 abbrev pub setFrom : (number limits bins : Bool) → Option BookFault
@@ -191,10 +192,6 @@ legal-passes s l = set-at s true true true numbers limits bins
 
 pub refused-not : (s : SetNumbers) (f : BookFault) → setFault s ≡ Some f → Legal s → ⊥
 refused-not s f e l = let p = legal-passes s l in let z : _≡_ {A = ℕ} 0 1 = cc in omega arith
-
-pub none-from : (o : Option BookFault) → isSome o ≡ false → o ≡ None
-none-from None e = refl
-none-from (Some f) e = cc
 
 -- Settings that were checked keep the rules.
 pub settings-legal : (s : Settings) → Legal (numbersOf s)

@@ -6,3 +6,9 @@ pub mod Within
 pub mod Sums
 pub mod Mapped
 pub mod Answering
+pub mod Steps
+pub mod Sound
+pub mod Leaving
+pub mod Overs
+pub mod Notes
+pub mod Sequenced

@@ -5,3 +5,4 @@ pub mod Sets
 pub mod Rows
 pub mod Sums
 pub mod Books
+pub mod Sequences

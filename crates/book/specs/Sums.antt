@@ -38,3 +38,10 @@ overFault s rows = overBelow s rows (classCount s)
 -- Every class's sum is within its cycle.
 abbrev pub Within : SetNumbers → List Row → Type 0
 Within s rows = (c : ℕ) → c < classCount s → demand s rows c ≤ cycleOf s c
+
+-- Class c is the lowest whose demand passes its cycle, and it does by so many ticks.
+pub record LowestOver (s : SetNumbers) (rows : List Row) (c ticks : ℕ) : Type 0 where
+  pub there : c < classCount s
+  pub some : 0 < ticks
+  pub over : demand s rows c ≡ cycleOf s c + ticks
+  pub lower : (d : ℕ) → d < c → demand s rows d ≤ cycleOf s d

@@ -4,6 +4,7 @@ ghost use lib.ListN.{length};
 ghost use Rattle.book.specs.Told.{classCount};
 ghost use Rattle.book.specs.Sets.{numbersOf};
 ghost use Rattle.book.specs.Sums.{demand, overFault};
+ghost use Rattle.book.specs.Sequences.{BookLaws};
 ghost use Rattle.book.specs.Books.{stateOf, newBook, lacks, heldBy, holdOf, confirmOf, dropOf, releaseOf, advanceOf};
 use crate::faults::BookFault;
 use crate::ledger::Book;
@@ -47,9 +48,10 @@ fn over_fault(settings: &Settings, rows: &[Row]) -> Option<BookFault>
 }
 
 impl Book {
-    // A new book: clock 0, all rows free.
+    // A new book: clock 0, all rows free. Its laws hold after every sequence of calls.
     pub fn make(settings: Settings) -> Book
-        ensures { λ r. ⌜ stateOf r ≡ newBook (numbersOf settings) ⌝ }
+        ensures state { λ r. ⌜ stateOf r ≡ newBook (numbersOf settings) ⌝ }
+        ensures laws { λ _. ⌜ BookLaws (numbersOf settings) ⌝ }
     {
         Book {
             settings,
