@@ -1,18 +1,19 @@
 ghost use mathlib.Core.Path.{_≡_};
-ghost use Rattle.book.specs.Sets.{numbersOf};
+ghost use Rattle.book.specs.Sets.{classAt};
 ghost use Rattle.book.specs.Books.{stateOf, readRow, readBooked, readSpare};
 use crate::faults::BookFault;
 use crate::ledger::Book;
 use crate::ledger::calls;
 use crate::rows;
 use crate::rows::Row;
-use crate::setup::Settings;
+use crate::setup::Class;
 
 impl Book {
-    pub fn settings(&self) -> Settings
-        ensures { λ r. ⌜ numbersOf r ≡ stateOf (now (self .entry)) .settings ⌝ }
+    // A class by its number, if it is there.
+    pub fn class(&self, class: u8) -> Option<Class>
+        ensures { λ r. ⌜ r ≡ classAt (stateOf (now (self .entry)) .settings) class ⌝ }
     {
-        self.settings
+        self.settings.class(class)
     }
 
     pub fn clock(&self) -> u64
