@@ -8,22 +8,24 @@ use lib.Dec.{ltb}
 use lib.ListN.{length, getD, take}
 use Rattle.std.specs.declared.option.Option.{Option}
 use Rattle.std.specs.declared.option.Option.the-variants.{Some, None}
-use Rattle.std.proofs.shelf.Lists.{length-take-le, getD-take, getD-past}
+use Rattle.book.specs.Sets.{placed}
+use Rattle.std.proofs.shelf.Lists.{length-take, getD-take, getD-past}
 use Rattle.std.proofs.shelf.Tests.{lt-ltb, le-ltb, cond-true, cond-false, ltb-false}
 
--- What stands at a place, if it is there.
-abbrev pub placed : {X : Type 0} → List X → ℕ → X → Option X
-placed xs i d = cond (ltb i (length xs)) (Some (getD xs i d)) None
+module _ {X : Type 0} (n : ℕ) (xs : List X) (i : ℕ) (d : X) (full : length (take n xs) ≡ n) where
+  pub front-there : i < n → Some (getD xs i d) ≡ placed (take n xs) i d
+  front-there k =
+      let l : i < length (take n xs) = omega arith in
+      sym (cond-true (ltb i (length (take n xs))) (Some (getD (take n xs) i d)) None (lt-ltb i (length (take n xs)) l) ∙ ap Some (getD-take n xs i d k))
 
-pub front-there : {X : Type 0} (n : ℕ) (xs : List X) (i : ℕ) (d : X) → n ≤ length xs → i < n → Some (getD xs i d) ≡ placed (take n xs) i d
-front-there n xs i d h k =
-    let l : i < length (take n xs) = omega (arith, length-take-le n xs h) in
-    sym (cond-true (ltb i (length (take n xs))) _ _ (lt-ltb i _ l) ∙ ap Some (getD-take n xs i d k))
+  pub front-past : n ≤ i → None ≡ placed (take n xs) i d
+  front-past k =
+      let l : length (take n xs) ≤ i = omega arith in
+      sym (cond-false (ltb i (length (take n xs))) (Some (getD (take n xs) i d)) None (le-ltb i (length (take n xs)) l))
 
-pub front-past : {X : Type 0} (n : ℕ) (xs : List X) (i : ℕ) (d : X) → n ≤ length xs → n ≤ i → None ≡ placed (take n xs) i d
-front-past n xs i d h k =
-    let l : length (take n xs) ≤ i = omega (arith, length-take-le n xs h) in
-    sym (cond-false (ltb i (length (take n xs))) (Some (getD (take n xs) i d)) None (le-ltb i _ l))
+-- A front that is full is no longer than the list.
+pub front-long : {X : Type 0} (n : ℕ) (xs : List X) → length (take n xs) ≡ n → n ≤ length xs
+front-long n xs h = omega (arith, length-take n xs)
 
 pub placed-none : {X : Type 0} (xs : List X) (i : ℕ) (d : X) → None ≡ placed xs i d → getD xs i d ≡ d
 placed-none {X} xs i d e = getD-past xs i d (ltb-false i (length xs) (go (ltb i (length xs)) e))

@@ -1,6 +1,5 @@
 // What set is told of a port, checked once and then carried in a type.
 ghost use mathlib.Core.Path.{_≡_};
-ghost use Prim.Native.Nat.{_≤_};
 ghost use lib.ListN.{length, take};
 ghost use mathlib.Core.Bool.{false};
 ghost use Rattle.std.specs.Options.{isSome};
@@ -26,7 +25,7 @@ pub struct Settings {
     classes: [Class; 4],
     input_count: u8,
     phases: [u32; 8],
-    ghost few_classes: { «class_count» ≤ length classes },
-    ghost few_inputs: { «input_count» ≤ length phases },
+    ghost some_classes: { length (take «class_count» classes) ≡ «class_count» },
+    ghost some_inputs: { length (take «input_count» phases) ≡ «input_count» },
     ghost passed: { isSome (setFault (told number delay «dead_time» (take «class_count» classes) (take «input_count» phases))) ≡ false },
 }

@@ -1,6 +1,10 @@
 ghost use mathlib.Core.Path.{_≡_};
+ghost use mathlib.Core.Bool.{true, false};
+ghost use Rattle.std.specs.Vec.{made};
 ghost use Prim.Native.Nat.{_+_, _*_, _^_, _<_, _≤_};
-ghost use lib.ListN.{length};
+ghost use lib.ListN.{length, replicate};
+ghost use Rattle.std.specs.Options.{isSome};
+ghost use Rattle.book.specs.declared.rows.Row.the-variants.{Free};
 ghost use Rattle.book.specs.Told.{classCount};
 ghost use Rattle.book.specs.Sets.{numbersOf};
 ghost use Rattle.book.specs.Sums.{demand, overFault};
@@ -47,6 +51,16 @@ fn over_fault(settings: &Settings, rows: &[Row]) -> Option<BookFault>
     None
 }
 
+// The rows of a new book, and the laws that they begin.
+fn free_rows(settings: &Settings) -> [Row; 128]
+    ensures rows { λ r. ⌜ r ≡ replicate 128 Free ⌝ }
+    ensures full { λ r. ⌜ length r ≡ 128 ⌝ }
+    ensures within { λ r. ⌜ isSome (overFault (numbersOf (now (settings .entry))) r) ≡ false ⌝ }
+    ensures laws { λ _. ⌜ BookLaws (numbersOf (now (settings .entry))) ⌝ }
+{
+    [Row::Free; 128]
+}
+
 impl Book {
     // A new book: clock 0, all rows free. Its laws hold after every sequence of calls.
     pub fn make(settings: Settings) -> Book
@@ -56,7 +70,7 @@ impl Book {
         Book {
             settings,
             clock: 0,
-            rows: [Row::Free; 128],
+            rows: free_rows(&settings),
         }
     }
 
@@ -69,10 +83,11 @@ impl Book {
             || booking.class >= self.settings.class_count()
     }
 
-    // Books a free row for a stream, if every class's sum stays within its cycle.
+    // Books a free row for a stream, if every class's sum stays within its cycle. The note is good in this book.
     pub fn hold(&mut self, stream: u8, booking: Booking) -> Result<Note, BookFault>
         ensures answer { λ r. ⌜ r ≡ holdOf (stateOf (now (self .entry))) stream booking .0 ⌝ }
         ensures next { λ _. ⌜ stateOf (now (self .exit)) ≡ holdOf (stateOf (now (self .entry))) stream booking .1 ⌝ }
+        ensures spendable { λ r. ⌜ made r (λ note. heldBy (stateOf (now (self .exit))) note ≡ true) ⌝ }
     {
         if self.lacks(stream, booking) {
             return Err(BookFault::NotThere);

@@ -1,4 +1,7 @@
 ghost use mathlib.Core.Path.{_≡_};
+ghost use Prim.Native.Nat.{_<_, _≤_};
+ghost use Rattle.book.specs.Told.{classCount, cycleOf};
+ghost use Rattle.book.specs.Sums.{demand};
 ghost use Rattle.book.specs.Sets.{classAt};
 ghost use Rattle.book.specs.Books.{stateOf, readRow, readBooked, readSpare};
 use crate::faults::BookFault;
@@ -41,6 +44,15 @@ impl Book {
         Ok(rows::booked(&self.rows, class))
     }
 
+    // The ticks that the bookings take of a class's cycle.
+    fn taken(&self, class: u8) -> u64
+        requires { ⌜ class < classCount (stateOf (now self) .settings) ⌝ }
+        ensures sum { λ r. ⌜ r ≡ demand (stateOf (now (self .entry)) .settings) (stateOf (now (self .entry)) .rows) class ⌝ }
+        ensures within { λ r. ⌜ r ≤ cycleOf (stateOf (now (self .entry)) .settings) class ⌝ }
+    {
+        calls::demand(&self.settings, &self.rows, class)
+    }
+
     // The ticks that the bookings leave of a class's cycle.
     pub fn spare(&self, class: u8) -> Result<u64, BookFault>
         ensures { λ r. ⌜ r ≡ readSpare (stateOf (now (self .entry))) class ⌝ }
@@ -48,7 +60,6 @@ impl Book {
         if class >= self.settings.class_count() {
             return Err(BookFault::NotThere);
         }
-        let needed = calls::demand(&self.settings, &self.rows, class);
-        Ok(u64::from(self.settings.cycle(class)) - needed)
+        Ok(u64::from(self.settings.cycle(class)) - self.taken(class))
     }
 }

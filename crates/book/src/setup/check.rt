@@ -123,8 +123,7 @@ fn enough_bins(delay: u32, classes: &[Class], phases: &[u32]) -> bool
 // A slice's items at the front of an array.
 fn padded<T: Copy, const N: usize>(items: &[T], rest: T) -> [T; N]
     requires { ⌜ length (now items) ≤ N ⌝ }
-    ensures front { λ r. ⌜ take (length (now (items .entry))) r ≡ now (items .entry) ⌝ }
-    ensures places { λ r. ⌜ length r ≡ N ⌝ }
+    ensures { λ r. ⌜ take (length (now (items .entry))) r ≡ now (items .entry) ⌝ }
 {
     let mut all = [rest; N];
     for i in 0..items.len() {

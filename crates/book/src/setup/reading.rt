@@ -1,11 +1,24 @@
 ghost use mathlib.Core.Path.{_≡_};
 ghost use Prim.Native.Nat.{_/_, _<_, _≤_};
+ghost use lib.ListN.{length, take};
 ghost use Rattle.std.specs.Options.{Cases};
 ghost use Rattle.book.specs.Ticks.{cycleAt};
 ghost use Rattle.book.specs.Told.{cycleOf, binsOf, classCount, inputCount, Legal};
-ghost use Rattle.book.specs.Sets.{numbersOf, classAt, phaseAt};
+ghost use Rattle.book.specs.Sets.{numbersOf, placed, classAt, phaseAt};
 use crate::setup::Class;
 use crate::setup::Settings;
+
+// What stands at a place of an array, of which the first so many are used.
+fn item<T: Copy>(items: &[T], count: u8, at: u8) -> Option<T>
+    requires { ⌜ length (take count (now items)) ≡ count ⌝ }
+    ensures { λ r. ⌜ ((d : T) → r ≡ placed (take count (now (items .entry))) at d) ⌝ }
+{
+    if at < count {
+        Some(items[at as usize])
+    } else {
+        None
+    }
+}
 
 impl Settings {
     pub fn number(&self) -> u64
@@ -44,22 +57,14 @@ impl Settings {
     pub fn class(&self, class: u8) -> Option<Class>
         ensures { λ r. ⌜ r ≡ classAt (numbersOf (now (self .entry))) class ⌝ }
     {
-        if class < self.class_count {
-            Some(self.classes[class as usize])
-        } else {
-            None
-        }
+        item(&self.classes, self.class_count, class)
     }
 
     // The phase of an input by its number, if it is there.
     pub fn phase(&self, input: u8) -> Option<u32>
         ensures { λ r. ⌜ r ≡ phaseAt (numbersOf (now (self .entry))) input ⌝ }
     {
-        if input < self.input_count {
-            Some(self.phases[input as usize])
-        } else {
-            None
-        }
+        item(&self.phases, self.input_count, input)
     }
 
     // The cycle time and the bins of a class; 0 where it is not there.

@@ -43,16 +43,15 @@ returns-then-not-enough-bins c =
 pub ghost-result : need.ghost-result
 ghost-result c =
     let t : SetNumbers = told (c .args .number) (c .args .delay) (c .args .dead-time) (c .args .classes .now) (c .args .phases .now) in
-    let n = some-few (told 0 0 0 (c .args .classes .now) (c .args .phases .now)) (sym (c .if-not-in-number .ensures tt)) in
     let e = set-at t true true true (sym (c .if-not-in-number .ensures tt)) (sym (c .if-not-within-limits .ensures tt)) (sym (c .if-not-enough-bins .ensures tt)) in
     let same = same-told (c .args .number) (c .args .delay) (c .args .dead-time) (c .args .classes .now) (c .args .phases .now) (c .padded .result) (c .padded-2 .result)
-    (c .padded .ensures .front) (c .padded-2 .ensures .front) in
-    (omega (arith, c .padded .ensures .places), (omega (arith, c .padded-2 .ensures .places), (ap (λ (x : SetNumbers). isSome (setFault x)) same ∙ ap isSome e, tt)))
+    (c .padded .ensures) (c .padded-2 .ensures) in
+    (ap length (c .padded .ensures), (ap length (c .padded-2 .ensures), (ap (λ (x : SetNumbers). isSome (setFault x)) same ∙ ap isSome e, tt)))
 
 pub returns : need.returns
 returns c =
     let t : SetNumbers = told (c .args .number) (c .args .delay) (c .args .dead-time) (c .args .classes .now) (c .args .phases .now) in
     let e = set-at t true true true (sym (c .if-not-in-number .ensures tt)) (sym (c .if-not-within-limits .ensures tt)) (sym (c .if-not-enough-bins .ensures tt)) in
     let same = same-told (c .args .number) (c .args .delay) (c .args .dead-time) (c .args .classes .now) (c .args .phases .now) (c .padded .result) (c .padded-2 .result)
-    (c .padded .ensures .front) (c .padded-2 .ensures .front) in
+    (c .padded .ensures) (c .padded-2 .ensures) in
     (e, same, legal-from t e)

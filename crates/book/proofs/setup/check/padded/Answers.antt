@@ -19,7 +19,5 @@ loop-i-again g c =
 pub returns : need.returns
 returns g c =
     let e : c .loop-i .i ≡ length (c .args .items .now) = omega arith in
-    record {
-      front = subst (λ (n : ℕ). take n (c .loop-i .all) ≡ take n (c .args .items .now)) e (c .loop-i .inv .0) ∙ take-all (length (c .args .items .now)) (c .args .items .now) (omega arith);
-      places = c .loop-i .inv .1;
-    }
+    subst (λ (n : ℕ). take n (c .loop-i .all) ≡ take n (c .args .items .now)) e (c .loop-i .inv .0)
+    ∙ take-all (length (c .args .items .now)) (c .args .items .now) (omega arith)

@@ -1,0 +1,10 @@
+-- The worked examples, computed.
+use mathlib.Core.Path.{refl}
+use Rattle.book.specs.Rows.{booked}
+use Rattle.book.specs.Sums.{weighed, overBelow}
+use Rattle.book.specs.Books.{holdFault, holdOf}
+use Rattle.examples.specs.Worked.{Worked}
+
+pub worked : Worked
+unfolding booked weighed overBelow holdFault holdOf
+worked = refl
