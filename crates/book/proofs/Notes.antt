@@ -12,6 +12,7 @@ use Rattle.std.specs.declared.result.Result.the-variants.{Ok, Err}
 use Rattle.std.proofs.shelf.Lists.{getD-set-same, set-set, set-getD}
 use Rattle.std.proofs.shelf.Tests.{eq-eqb, le-ltb, ltb-false, or-parts, not-false}
 use Rattle.book.specs.declared.faults.BookFault.{BookFault}
+use Rattle.book.specs.declared.faults.BookFault.the-variants.{WrongState}
 use Rattle.book.specs.declared.rows.Booking.{Booking}
 use Rattle.book.specs.declared.rows.Row.{Row}
 use Rattle.book.specs.declared.rows.Row.the-variants.{Free, Held, Live, Leaving}
@@ -91,3 +92,19 @@ module _ (b : BookState) (s : ℕ) (k : Booking) (n : Note) (full : length (b .r
       rw (t .next, t .note) (drop-at after-hold (noteOf b s) true good
       ∙ ap (λ (r : Row). (Ok tt, withRows b (set (set (b .rows) s (Held k)) s (dropped r)))) row-held
       ∙ ap (λ (rs : List Row). (Ok tt, withRows b rs)) (set-set (b .rows) s (Held k) Free ∙ ap (λ (r : Row). set (b .rows) s r) (sym (t .was)) ∙ set-getD (b .rows) s Free))
+
+-- A good note is never refused.
+pub good-confirmed : (b : BookState) (n m : Note) (f : BookFault) → heldBy b n ≡ true → confirmOf b n .0 ≡ Err (f, m) → ⊥
+good-confirmed b n m f h e = let k = confirm-at b n true h in let z : _≡_ {A = ℕ} 0 1 = cc in omega arith
+
+pub good-dropped : (b : BookState) (n m : Note) (f : BookFault) → heldBy b n ≡ true → dropOf b n .0 ≡ Err (f, m) → ⊥
+good-dropped b n m f h e = let k = drop-at b n true h in let z : _≡_ {A = ℕ} 0 1 = cc in omega arith
+
+-- A refused note is handed back as it was.
+pub confirm-hands-back : (b : BookState) (n m : Note) (f : BookFault) → confirmOf b n .0 ≡ Err (f, m) → m ≡ n
+unfolding confirmOf
+confirm-hands-back b n m f e = go (heldBy b n) e
+  where
+    go : (x : Bool) → spentBy x confirmed b n .0 ≡ Err (f, m) → m ≡ n
+    go true h = nope (cc)
+    go false h = let p : _≡_ {A = BookFault × Note} (WrongState, n) (f, m) = cc in sym (ap (λ (w : BookFault × Note). w .1) p)

@@ -1,6 +1,0 @@
-use mathlib.Core.Path.{refl}
-use Rattle.examples.proofs.Computed.{worked}
-use Rattle.examples.proofs.worked_examples.Needs as need
-
-pub returns : need.returns
-returns c = record { count = refl; worked = worked }
