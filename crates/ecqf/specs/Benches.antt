@@ -53,8 +53,8 @@ abbrev pub said : {X : Type 0} → (X → Answer) → Result X BookFault → Ans
 said done (Ok x) = done x
 said done (Err f) = answer.Refused f
 
-abbrev pub told-of : {X : Type 0} → (X → Answer) → Result X BookFault × BookState → Answer × BookState
-told-of done r = (said done (r .0), r .1)
+abbrev pub answered : {X : Type 0} → (X → Answer) → Result X BookFault × BookState → Answer × BookState
+answered done r = (said done (r .0), r .1)
 
 -- A call that spends the note of a stream, where it is in hand.
 abbrev pub saidOfNote : Answer → Result (Unit {0}) (BookFault × Note) → Answer
@@ -87,7 +87,7 @@ unfoldable pub setOf : BenchState → (delay dead : ℕ) → Answer × BenchStat
 setOf s delay dead = setBy (setFault (toldIn s delay dead)) (toldIn s delay dead) (s .book)
 
 unfoldable pub holdDone : BenchState → (stream : ℕ) → Booking → Answer × BenchState
-holdDone s stream booking = onBook s (λ b. told-of (λ n. answer.Held) (holdOf b stream booking))
+holdDone s stream booking = onBook s (λ b. answered (λ n. answer.Held) (holdOf b stream booking))
 
 unfoldable pub confirmDone : BenchState → (stream : ℕ) → Answer × BenchState
 confirmDone s stream = onBook s (λ b. spent answer.Live (confirmOf b) b (noteIn b stream))
@@ -96,10 +96,10 @@ unfoldable pub dropDone : BenchState → (stream : ℕ) → Answer × BenchState
 dropDone s stream = onBook s (λ b. spent answer.Free (dropOf b) b (noteIn b stream))
 
 unfoldable pub releaseDone : BenchState → (stream : ℕ) → Answer × BenchState
-releaseDone s stream = onBook s (λ b. told-of answer.LeavingUntil (releaseOf b stream))
+releaseDone s stream = onBook s (λ b. answered answer.LeavingUntil (releaseOf b stream))
 
 unfoldable pub advanceDone : BenchState → (until : ℕ) → Answer × BenchState
-advanceDone s until = onBook s (λ b. told-of (λ u. answer.Clock until) (advanceOf b until))
+advanceDone s until = onBook s (λ b. answered (λ u. answer.Clock until) (advanceOf b until))
 
 abbrev pub shown : Option BookState → Answer
 shown None = answer.NothingSet

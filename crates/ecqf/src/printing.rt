@@ -107,6 +107,7 @@ impl Page {
         self.text(b" bins");
     }
 
+    // The lines of a book begin with their line breaks, since the last has one after the answer.
     fn show(&mut self, book: Option<&Book>) {
         let Some(book) = book else {
             return;
@@ -127,6 +128,7 @@ impl Page {
         self.number(b"\n  class ", u64::from(at));
         self.number(b" cycle ", u64::from(class.cycle));
         self.number(b" bins ", u64::from(class.bins));
+        // A class that is there has both.
         self.number(b" booked ", book.booked(at).unwrap_or(0));
         self.number(b" spare ", book.spare(at).unwrap_or(0));
     }

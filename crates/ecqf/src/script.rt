@@ -6,6 +6,7 @@ use crate::words::Words;
 use book::rows::Booking;
 use book::setup::Class;
 
+// A command with its numbers.
 #[derive(Clone, Copy)]
 pub enum Command {
     Bins { delay: u32, cycle: u32, phase: u32 },
@@ -35,6 +36,7 @@ pub(crate) enum Name {
     Show,
 }
 
+// What one line of a script says.
 #[derive(Clone, Copy)]
 pub enum Line {
     // Blank, or a remark.

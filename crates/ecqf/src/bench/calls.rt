@@ -1,16 +1,17 @@
 ghost use mathlib.Core.Path.{_≡_};
 ghost use Prim.Native.Nat.{ℕ, _<_};
 ghost use lib.ListN.{getD};
-ghost use Rattle.std.specs.Of.Vec.{vec-items, vec-len};
+ghost use Rattle.std.specs.Of.Vec.{vec-items};
 ghost use Rattle.std.specs.Options.{mapped};
 ghost use Rattle.std.specs.Vec.{made};
 ghost use Rattle.std.specs.declared.option.Option.the-variants.{None};
 ghost use Rattle.book.specs.Books.{stateOf};
-ghost use Rattle.ecqf.specs.Notes.{noteAt, inHand};
+ghost use Rattle.ecqf.specs.Notes.{inHand};
 ghost use Rattle.ecqf.specs.Benches.{benchOf, emptyBench, classNoted, inputNoted, setOf, holdDone, confirmDone, dropDone, releaseDone, advanceDone, shown, carriedOut};
 use crate::answers::Answer;
 use crate::bench::Bench;
 use crate::bench::slots;
+use crate::bench::slots::STREAMS;
 use crate::script::Command;
 use book::ledger::Book;
 use book::rows::Booking;
@@ -20,11 +21,10 @@ use book::ticks;
 use std::alloc::AllocError;
 use std::alloc::Global;
 
+// One more than a set accepts.
 const MOST_CLASSES: usize = 5;
 
 const MOST_INPUTS: usize = 9;
-
-const STREAMS: usize = 128;
 // The number of the one module's book.
 const NUMBER: u64 = 0;
 

@@ -9,7 +9,7 @@ use book::ledger::Note;
 use std::alloc::AllocError;
 use std::alloc::Global;
 
-const STREAMS: usize = 128;
+pub(super) const STREAMS: usize = 128;
 
 // No note in any place.
 pub(super) fn empty(heap: Global) -> Result<Vec<Option<Note>>, AllocError>

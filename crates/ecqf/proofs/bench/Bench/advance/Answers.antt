@@ -4,7 +4,7 @@ use Rattle.std.specs.Of.Vec.{vec-items}
 use Rattle.std.specs.Options.{mapped}
 use Rattle.book.specs.Books.{stateOf}
 use Rattle.ecqf.specs.Notes.{noteIn}
-use Rattle.ecqf.specs.Benches.{advanceDone, said, told-of, benchOf}
+use Rattle.ecqf.specs.Benches.{advanceDone, said, answered, benchOf}
 use Rattle.ecqf.specs.declared.answers.Answer.the-variants.{Clock}
 use Rattle.ecqf.proofs.Pairing.{matching-of, matching-kept, advance-kept, Matching}
 use Rattle.ecqf.proofs.Carrying.{done, missing}

@@ -4,7 +4,7 @@ use Rattle.std.specs.Of.Vec.{vec-items}
 use Rattle.std.specs.Options.{mapped}
 use Rattle.book.specs.Books.{stateOf}
 use Rattle.ecqf.specs.Notes.{noteIn}
-use Rattle.ecqf.specs.Benches.{releaseDone, said, told-of, benchOf}
+use Rattle.ecqf.specs.Benches.{releaseDone, said, answered, benchOf}
 use Rattle.ecqf.specs.declared.answers.Answer.the-variants.{LeavingUntil}
 use Rattle.ecqf.proofs.Pairing.{matching-of, matching-kept, release-kept, Matching}
 use Rattle.ecqf.proofs.Carrying.{done, missing}
