@@ -23,7 +23,8 @@ use Rattle.book.specs.Faults.{firstHit, check, orElse}
 use Rattle.book.specs.Told.{SetNumbers}
 use Rattle.book.specs.Rows.{isFree, isHeld, fits, holding, confirmed, dropped, released, releasing, settled}
 use Rattle.book.specs.Sums.{overFault}
-use Rattle.book.specs.Books.{BookState, rowOf, noteOf, changed, noStream, lacks, judged, holdFault, holdOf, heldBy, spentBy, confirmOf, dropOf, releasedBy, releaseOf, advanced, advanceOf}
+use Rattle.book.specs.Books.{BookState, rowOf, noteOf, withRows, changed, noStream, lacks, judged, holdFault, holdOf, heldBy, spentBy, confirmOf, dropOf, releasedBy, releaseOf, advanced, advanceOf}
+use Rattle.book.proofs.Notes.{hold-taken-says, note-good}
 use Rattle.ecqf.specs.Notes.{noteBy, noteIn, noteAt}
 
 abbrev pub Matching : BookState → List (Option Note) → Type 0
@@ -92,38 +93,17 @@ pub record Taken (b : BookState) (s : ℕ) (k : Booking) (n : Note) : Type 0 whe
   pub note : noteOf b s ≡ n
   pub next : holdOf b s k .1 ≡ changed b s (holding k)
 
-abbrev faults : (l f r : Bool) → Option BookFault → Option BookFault
-faults l f r o = orElse (firstHit (check l NotThere ∷ check (not f) BadLengths ∷ check (not r) WrongState ∷ [])) o
-
-taken-by : (l f r : Bool) (o : Option BookFault) (m n : Note) (next b : BookState) → judged (faults l f r o) m next b .0 ≡ Ok n
-    → (l ≡ false) × (r ≡ true) × (m ≡ n) × (judged (faults l f r o) m next b .1 ≡ next)
-taken-by true f r o m n next b e = let z : _≡_ {A = ℕ} 0 1 = cc in absurd (omega arith)
-taken-by false false r o m n next b e = let z : _≡_ {A = ℕ} 0 1 = cc in absurd (omega arith)
-taken-by false true false o m n next b e = let z : _≡_ {A = ℕ} 0 1 = cc in absurd (omega arith)
-taken-by false true true None m n next b e = (refl, refl, cc, refl)
-taken-by false true true (Some x) m n next b e = let z : _≡_ {A = ℕ} 0 1 = cc in absurd (omega arith)
-
 pub hold-taken : (b : BookState) (s : ℕ) (k : Booking) (n : Note) → holdOf b s k .0 ≡ Ok n → Taken b s k n
-unfolding holdOf holdFault
 hold-taken b s k n e =
-    let t = taken-by (lacks b s k) (fits k) (isFree (rowOf b s)) (overFault (b .settings) (set (b .rows) s (Held k))) (noteOf b s) n (changed b s (holding k)) b e in
-    let g = ltb-false 127 s (or-parts (noStream s) _ (t .0) .0) in
-    record { stream = omega arith; free = t .1; note = t .2; next = t .3 }
-
-refused-by : {X : Type 0} (o : Option BookFault) (x : X) (next b : BookState) (f : BookFault) → judged o x next b .0 ≡ Err f → judged o x next b .1 ≡ b
-refused-by None x next b f e = let z : _≡_ {A = ℕ} 0 1 = cc in absurd (omega arith)
-refused-by (Some g) x next b f e = refl
-
-pub hold-refused : (b : BookState) (s : ℕ) (k : Booking) (f : BookFault) → holdOf b s k .0 ≡ Err f → holdOf b s k .1 ≡ b
-unfolding holdOf
-hold-refused b s k f e = refused-by (holdFault b s k) (noteOf b s) (changed b s (holding k)) b f e
+    let t = hold-taken-says b s k n e in
+    record {
+      stream = omega (arith, t .there);
+      free = ap isFree (t .was);
+      note = sym (t .note);
+      next = t .next ∙ ap (λ (r : Row). withRows b (set (b .rows) s (holding k r))) (sym (t .was));
+    }
 
 -- A note in hand is the one of a held row of the book, so the book takes it.
-held-spent : (b : BookState) (s : ℕ) → s < 128 → isHeld (rowOf b s) ≡ true → heldBy b (noteOf b s) ≡ true
-held-spent b s h e =
-    let g : s ≤ 127 = omega arith in
-    rw (eq-eqb (b .settings .number) (b .settings .number) refl, le-ltb 127 s g, e)
-
 stream-there : (b : BookState) (s : ℕ) (n : Note) → length (b .rows) ≡ 128 → noteIn b s ≡ Some n → s < 128
 stream-there b s n e p =
     ⊎-elim (λ (h : s < 128). h)
@@ -142,10 +122,11 @@ pub record Spent (b : BookState) (s : ℕ) (f : Row → Row) (n : Note) (r : Res
 spent-by : (b : BookState) (s : ℕ) (f : Row → Row) (n : Note) → length (b .rows) ≡ 128 → noteIn b s ≡ Some n → Spent b s f n (spentBy (heldBy b n) f b n)
 spent-by b s f n e p =
     let h = stream-there b s n e p in
+    let l : s ≤ 127 = omega arith in
     let q = noteBy-some (isHeld (rowOf b s)) (noteOf b s) n p in
     let P : Note → Type 0 = λ m. Spent b s f m (spentBy (heldBy b m) f b m) in
     let Q : Bool → Type 0 = λ t. Spent b s f (noteOf b s) (spentBy t f b (noteOf b s)) in
-    subst P (q .1) (subst Q (sym (held-spent b s h (q .0))) (record { stream = h; answer = refl; next = refl }))
+    subst P (q .1) (subst Q (sym (note-good b s l (q .0))) (record { stream = h; answer = refl; next = refl }))
 
 pub confirm-spent : (b : BookState) (s : ℕ) (n : Note) → length (b .rows) ≡ 128 → noteIn b s ≡ Some n → Spent b s confirmed n (confirmOf b n)
 unfolding confirmOf

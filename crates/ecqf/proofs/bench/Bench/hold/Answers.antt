@@ -13,7 +13,8 @@ use Rattle.ecqf.specs.Notes.{noteIn}
 use Rattle.ecqf.proofs.Carrying.{done, missing}
 use Rattle.ecqf.proofs.bench.Bench.hold.Needs as need
 use Rattle.ecqf.specs.declared.answers.Answer.the-variants.{Held}
-use Rattle.ecqf.proofs.Pairing.{Matching, matching-of, hold-taken, hold-refused, held-matching, hold-place}
+use Rattle.book.proofs.Notes.{hold-refused-says}
+use Rattle.ecqf.proofs.Pairing.{Matching, matching-of, hold-taken, held-matching, hold-place}
 
 pub returns-in-rest : need.returns-in-rest
 unfolding holdDone
@@ -48,7 +49,7 @@ ghost-self-in-Err· c =
     let b = stateOf (c .in-Some .book) in
     let ns = vec-items (c .args .self .now .notes) in
     let m : Matching b ns = matching-of _ b ns (ap (mapped stateOf) (sym (c .in-Some .ensures tt .value))) (c .args .self .now .paired) in
-    let e = c .hold-held .ensures .next ∙ hold-refused b (c .args .stream) (c .args .booking) (c .in-Err .fault) (sym (c .in-Err .ensures tt .answer)) in
+    let e = c .hold-held .ensures .next ∙ hold-refused-says b (c .args .stream) (c .args .booking) (c .in-Err .fault) (sym (c .in-Err .ensures tt .answer)) in
     let j : Matching (stateOf (c .hold-held .last .self)) ns = λ s h. m s h ∙ sym (ap (λ x. noteIn x s) e) in
     (search needs, (j, (search needs, (search needs, tt))))
 
