@@ -9,14 +9,23 @@ use Rattle.book.specs.declared.setup.Class.{Class}
 use Rattle.book.specs.declared.rows.Booking.{Booking}
 use Rattle.book.specs.declared.ledger.Note.{Note}
 use Rattle.book.specs.Faults.{numberOf, valuesOf}
+use Rattle.placers.specs.declared.faults.PlacerFault.{PlacerFault}
+use Rattle.placers.specs.declared.terms.Terms.{Terms}
+use Rattle.placers.specs.declared.terms.Ask.{Ask}
+use Rattle.placers.specs.Faults as placer
+use Rattle.placers.specs.Placers.{answerOf, Rules}
+use Rattle.placers.specs.Timed.{byTime}
+use Rattle.placers.specs.Counted.{byCount}
+use Rattle.placers.specs.Sequences.{recordAfter}
 use Rattle.book.specs.Ticks.{binsAnswer}
 use Rattle.book.specs.Told.{SetNumbers, told}
 use Rattle.book.specs.Books.{BookState, newBook, holdOf}
 
--- What a call came to: bins, a hold, or a refusal with its number and values.
+-- What a call came to: bins, a hold, a cycle, or a refusal with its number and values.
 pub data Outcome : Type 0 where
   bins : ℕ → Outcome
   held : Outcome
+  cycle : ℕ → Outcome
   refused : ℕ → List ℕ → Outcome
 
 abbrev pub binsCame : Result ℕ BookFault → Outcome
@@ -26,6 +35,10 @@ binsCame (Err f) = refused (numberOf f) (valuesOf f)
 abbrev pub holdCame : Result Note BookFault → Outcome
 holdCame (Ok n) = held
 holdCame (Err f) = refused (numberOf f) (valuesOf f)
+
+abbrev pub cycleCame : Result ℕ PlacerFault → Outcome
+cycleCame (Ok q) = cycle q
+cycleCame (Err f) = refused (placer.numberOf f) (placer.valuesOf f)
 
 pub record Example : Type 0 where
   pub came : Outcome
@@ -46,7 +59,7 @@ phaseAndDelayOfOneCycleNeedThree = record { came = binsCame (binsAnswer 1 4000 3
 
 -- Admission to an empty book with classes of 4,000 and 16,000 ticks and a dead time of 100.
 abbrev pub classOf : ℕ → Class
-classOf cycle = record { cycle = cycle; bins = 2 }
+classOf ticks = record { cycle = ticks; bins = 2 }
 
 abbrev pub twoClasses : BookState
 twoClasses = newBook (told 0 0 100 (classOf 4000 ∷ classOf 16000 ∷ []) (0 ∷ []))
@@ -69,9 +82,48 @@ theSlowClassHasTheRest = record { came = holdCame (holdOf fastFull 1 (booking 1 
 abbrev pub theSlowClassCountsTheFast : Example
 theSlowClassCountsTheFast = record { came = holdCame (holdOf fastFull 1 (booking 1 4927) .0); due = refused 8 (1 ∷ 1 ∷ []) }
 
+-- What a frame gets after others of its stream, newest first, from a new record.
+abbrev pub placedCame : {Record : Type 0} → Rules Record → Terms → List Ask → Ask → Outcome
+placedCame m t before a = cycleCame (answerOf (m .rule t (recordAfter m t before) a))
+
+-- A cycle of 4,000 ticks with no phase and no delay.
+abbrev pub plainTerms : (bins : ℕ) → Terms
+plainTerms n = record { cycle = 4000; phase = 0; delay = 0; bins = n }
+
+abbrev pub frameAt : (tick octets : ℕ) → Ask
+frameAt tick octets = record { clock = tick; stamp = tick; octets = octets; quota = 1000 }
+
+-- By time, 120 octets.
+abbrev pub timeCame : (stamp : ℕ) → Outcome
+timeCame stamp = placedCame byTime (plainTerms 2) [] (frameAt stamp 120)
+
+abbrev pub aFrameEndsWithItsInputCycle : Example
+aFrameEndsWithItsInputCycle = record { came = timeCame 3880; due = cycle 1 }
+
+abbrev pub oneTickLaterItIsInsideNone : Example
+oneTickLaterItIsInsideNone = record { came = timeCame 3881; due = refused 13 [] }
+
+-- By count, three bins, a quota of 1,000, all at clock 100: after frames of so many octets, newest first, one more.
+abbrev pub countCame : List ℕ → (octets : ℕ) → Outcome
+countCame before octets = placedCame byCount (plainTerms 3) (map (frameAt 100) before) (frameAt 100 octets)
+
+abbrev pub aFrameGetsTheNextCycle : Example
+aFrameGetsTheNextCycle = record { came = countCame [] 600; due = cycle 1 }
+
+abbrev pub withNoRoomThereTheOneAfter : Example
+withNoRoomThereTheOneAfter = record { came = countCame (600 ∷ []) 600; due = cycle 2 }
+
+abbrev pub theQuotaIsMet : Example
+theQuotaIsMet = record { came = countCame (600 ∷ 600 ∷ []) 400; due = cycle 2 }
+
+abbrev pub theCycleWithRoomIsOutOfReach : Example
+theCycleWithRoomIsOutOfReach = record { came = countCame (600 ∷ 600 ∷ []) 600; due = refused 14 [] }
+
 abbrev pub table : List Example
 table = noDelayNeedsTwoBins ∷ aDelayOfOneCycleNeedsThree ∷ oneTickMoreNeedsFour ∷ phaseAndDelayOfOneCycleNeedThree
-    ∷ aQuotaFillsTheFastCycle ∷ oneOctetMorePassesIt ∷ theSlowClassHasTheRest ∷ theSlowClassCountsTheFast ∷ []
+    ∷ aQuotaFillsTheFastCycle ∷ oneOctetMorePassesIt ∷ theSlowClassHasTheRest ∷ theSlowClassCountsTheFast
+    ∷ aFrameEndsWithItsInputCycle ∷ oneTickLaterItIsInsideNone ∷ aFrameGetsTheNextCycle ∷ withNoRoomThereTheOneAfter ∷ theQuotaIsMet
+    ∷ theCycleWithRoomIsOutOfReach ∷ []
 
 -- Every example came to what is due.
 abbrev pub Worked : Type 0
