@@ -1,23 +1,21 @@
 -- Every frame of a stream that keeps its contract passes every placer that keeps the duties.
 use mathlib.Core.Path.{_≡_, refl, sym, ap, ap₂, subst, _∙_}
-use mathlib.Core.Bool.{Bool, true, false, cond}
 use mathlib.Core.List.{List, [], _∷_, map}
 use mathlib.Core.Logic.{_⊎_, inl, inr}
-use Prim.Native.Nat.{ℕ, _+_, _*_, _<_, _≤_}
-use native.Mathlib.Nat.{le-div-iff-mul-le}
+use Prim.Native.Nat.{ℕ, _+_, _<_, _≤_}
 use native.Mathlib.Omega.{arith}
 use lib.Dec.{eqb}
 use Rattle.std.specs.shelf.Lists.{All}
 use Rattle.std.specs.declared.result.Result.{Result}
 use Rattle.std.specs.declared.result.Result.the-variants.{Ok}
 use Rattle.std.proofs.shelf.Elements.{all-weaker}
-use Rattle.std.proofs.shelf.Tests.{eq-eqb, ne-eqb, cond-true, cond-false, cases-eq, cases-order}
+use Rattle.std.proofs.shelf.Tests.{eq-eqb, ne-eqb, cond-true, cond-false, cases-eq}
 use Rattle.placers.specs.declared.faults.PlacerFault.{PlacerFault}
 use Rattle.placers.specs.declared.terms.Terms.{Terms}
 use Rattle.placers.specs.declared.terms.Ask.{Ask}
-use Rattle.placers.specs.Terms.{inputCycle, Inside, current, shiftIn, LegalTerms}
-use Rattle.placers.specs.Placers.{Placing, given, answerOf, nextOf, Rules, octetsIn, Asked, Led, renewed, placed, Due, Accepted, Duties}
-use Rattle.placers.specs.Sequences.{Each, octetsOf, Kept, NotBefore, Onward, Contract, recordAfter, answers, Rising, Near, Passed, Passes}
+use Rattle.placers.specs.Terms.{shiftIn, LegalTerms}
+use Rattle.placers.specs.Placers.{answerOf, nextOf, Rules, octetsIn, Asked, Led, renewed, placed, Due, Accepted, Duties}
+use Rattle.placers.specs.Sequences.{Each, octetsOf, Kept, NotBefore, Onward, Contract, recordAfter, answers, Rising, Near, Passes}
 use Rattle.placers.specs.Keeping.Rooms.{in-same, in-other}
 use Rattle.placers.specs.Keeping.Inputs.{inside-one, inputs-onward, not-before}
 
@@ -75,7 +73,7 @@ module _ {Record : Type 0} (m : Rules Record) (duties : Duties m) (t : Terms) (l
     r = m .fresh t;
     is-r = refl;
     led = renewed;
-    fitted = λ j _. record { i = j; u = 0; fits = duties .begins t j legal; up = omega arith; sent = no-more j (cases-eq j j) };
+    fitted = λ j _. record { i = j; u = 0; fits = duties .begins t j legal; up = omega arith; sent = let k = in-same j 0 j refl in omega arith };
     cycles = [];
     accepted = refl;
     near = tt;
@@ -85,9 +83,6 @@ module _ {Record : Type 0} (m : Rules Record) (duties : Duties m) (t : Terms) (l
     here = omega arith;
     beyond = λ q _. refl;
   }
-    where
-      no-more : (j : ℕ) → (j ≡ j) ⊎ (j ≡ j → ⊥) → octetsIn j 0 j ≤ 0
-      no-more j e = let k = in-same j 0 j refl in omega arith
 
   module _ (a : Ask) (frames : List Ask) (j : ℕ) (inputs : List ℕ) (reached : Reached frames inputs) (kept : Kept t quota a j)
       (after : NotBefore a frames) (from : From inputs j) (within : octetsOf (a ∷ frames) (j ∷ inputs) j ≤ quota) where
@@ -184,10 +179,7 @@ module _ {Record : Type 0} (m : Rules Record) (duties : Duties m) (t : Terms) (l
   from-inputs : (a : Ask) (frames : List Ask) (j : ℕ) (inputs : List ℕ) → Each (Kept t quota) (a ∷ frames) (j ∷ inputs) → NotBefore a frames → From inputs j
   unfolding Each
   from-inputs a [] j [] each after = tt
-  from-inputs a [] j (i ∷ inputs) each after = tt-not (each .1)
-    where
-      tt-not : ⊥ → i ≤ j
-      tt-not x = absurd x
+  from-inputs a [] j (i ∷ inputs) each after = absurd (each .1)
   from-inputs a (b ∷ frames) j [] each after = tt
   from-inputs a (b ∷ frames) j (i ∷ inputs) each after =
       let pos : 0 < t .cycle = omega (arith, legal .least) in

@@ -1,8 +1,6 @@
 -- A table of new records.
 use mathlib.Core.Path.{_≡_, refl}
-use mathlib.Core.List.{List}
-use mathlib.Core.Logic.{_⊎_, inl, inr}
-use Prim.Native.Nat.{ℕ, zero, suc, _<_, _≤_}
+use Prim.Native.Nat.{ℕ, zero, suc}
 use lib.ListN.{getD, replicate}
 
 -- A place that is not there reads as one of the same.

@@ -1,5 +1,4 @@
 -- The placer by count: a frame goes into the earliest cycle that has room for it.
-use mathlib.Core.Path.{_≡_}
 use mathlib.Core.Bool.{Bool, _&&_, cond}
 use Prim.Native.Nat.{ℕ, _+_, _<_, _≤_}
 use lib.Dec.{leb, ltb}

@@ -1,6 +1,7 @@
 -- What a placer is: its rules over the record of one stream, the duties of these rules, and what its calls do.
 use mathlib.Core.Path.{_≡_}
 use mathlib.Core.Bool.{cond}
+use mathlib.Core.Logic.{_⊎_}
 use Prim.Native.Nat.{ℕ, _+_, _<_, _≤_}
 use lib.Dec.{eqb, ltb}
 use Rattle.std.specs.declared.result.Result.{Result}
@@ -10,6 +11,7 @@ use Rattle.placers.specs.declared.faults.PlacerFault.{PlacerFault}
 use Rattle.placers.specs.declared.faults.PlacerFault.the-variants.{NotThere}
 use Rattle.placers.specs.declared.terms.Terms.{Terms}
 use Rattle.placers.specs.declared.terms.Ask.{Ask}
+use Rattle.placers.specs.Faults.{numberOf}
 use Rattle.placers.specs.Terms.{Inside, current, shiftIn, LegalTerms}
 
 -- What a placer makes of a frame: the cycle that it gets with the stream's next record, or a refusal, and then the record stays.
@@ -76,9 +78,14 @@ pub record Accepted {Record : Type 0} (p : Placing Record) (latest : ℕ) (left 
   pub early : cycle ≤ latest
   pub again : left next
 
+-- A rule refuses by 13 or 14.
+abbrev pub Refusal : PlacerFault → Type 0
+Refusal f = (numberOf f ≡ 13) ⊎ (numberOf f ≡ 14)
+
 -- The duties of a placer, on records that calls led to. That a stream's answer and next record follow from its own record
 -- and these numbers alone, and that a refusal changes nothing, is in the calls' contracts.
 pub record Duties {Record : Type 0} (m : Rules Record) : Type 0 where
+  pub refusals : (t : Terms) (r : Record) (a : Ask) (f : PlacerFault) → m .rule t r a ≡ refused f → Refusal f
   -- The cycle is later than the current one, within as many cycles as there are bins, and not before the stream's last;
   -- the octets of the stream in it are within the quota.
   pub due : (t : Terms) (quota stamp clock : ℕ) (r : Record) (a : Ask) (q : ℕ) (next : Record) → LegalTerms t

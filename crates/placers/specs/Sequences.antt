@@ -11,7 +11,7 @@ use Rattle.book.specs.Ticks.{lastTick}
 use Rattle.placers.specs.declared.faults.PlacerFault.{PlacerFault}
 use Rattle.placers.specs.declared.terms.Terms.{Terms}
 use Rattle.placers.specs.declared.terms.Ask.{Ask}
-use Rattle.placers.specs.Terms.{Inside, shiftIn, LegalTerms}
+use Rattle.placers.specs.Terms.{Inside}
 use Rattle.placers.specs.Placers.{answerOf, nextOf, Rules}
 
 -- R ties the lists place by place, and they are as long.

@@ -34,10 +34,11 @@ impl ByTime {
 fn next_by_time(latest: Latest, terms: Terms, ask: Ask) -> Result<Latest, PlacerFault>
     ensures { λ r. ⌜ r ≡ timed terms latest ask ⌝ }
 {
-    if !terms.is_inside(ask.stamp, ask.octets) {
+    let stamp = ask.stamp;
+    if !terms.is_inside(stamp, ask.octets) {
         return Err(PlacerFault::NotInside);
     }
-    let cycle = terms.input_cycle(ask.stamp) + terms.shift();
+    let cycle = terms.input_cycle(stamp) + terms.shift();
     latest.add(cycle, ask.octets, ask.quota)
 }
 

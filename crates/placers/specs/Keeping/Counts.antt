@@ -1,11 +1,11 @@
 -- The placer by count keeps the duties.
-use mathlib.Core.Path.{_≡_, refl, sym, ap, subst, _∙_}
-use mathlib.Core.Bool.{Bool, true, false, cond, _&&_}
+use mathlib.Core.Path.{_≡_, refl, ap, _∙_}
+use mathlib.Core.Bool.{false}
 use mathlib.Core.Logic.{_⊎_, inl, inr}
 use Prim.Native.Nat.{ℕ, _+_, _<_, _≤_}
 use native.Mathlib.Omega.{arith}
 use lib.Dec.{leb, ltb}
-use Rattle.std.specs.declared.result.Result.the-variants.{Ok, Err}
+use Rattle.std.specs.declared.result.Result.the-variants.{Err}
 use Rattle.std.proofs.shelf.Tests.{ltb-true, ltb-false, leb-true, leb-false, lt-ltb, le-leb, and-parts, and-from, cond-true, cond-both, cases-eq}
 use Rattle.book.specs.Ticks.{lastTick}
 use Rattle.placers.specs.declared.faults.PlacerFault.the-variants.{NoRoom}
@@ -13,10 +13,10 @@ use Rattle.placers.specs.declared.terms.Terms.{Terms}
 use Rattle.placers.specs.declared.terms.Ask.{Ask}
 use Rattle.placers.specs.declared.table.Latest.{Latest}
 use Rattle.placers.specs.Terms.{Inside, current, shiftIn, LegalTerms}
-use Rattle.placers.specs.Placers.{Placing, given, octetsIn, Asked, Led, Due, Accepted, Duties}
+use Rattle.placers.specs.Placers.{given, octetsIn, Asked, Due, Accepted, Duties}
 use Rattle.placers.specs.Latest.{heldIn, hasRoom, added, placingTo, Fits}
 use Rattle.placers.specs.Counted.{firstAfter, earliest, Earliest, countedCycle, inReach, counted, byCount, FindsEarliest}
-use Rattle.placers.specs.Keeping.Rooms.{in-other, passed, Added, added-given, given-added, more, due-by, sent-in, fits-more}
+use Rattle.placers.specs.Keeping.Rooms.{in-other, passed, failed, added-refused, added-given, given-added, more, due-by, sent-in, fits-more}
 use Rattle.placers.specs.Keeping.Inputs.{not-before, before-shift}
 
 module _ (r : Latest) (k w quota : ℕ) (share : w ≤ quota) where
@@ -65,7 +65,6 @@ module _ (t : Terms) (quota stamp clock : ℕ) (r : Latest) (a : Ask) (legal : L
 
   count-due : (q : ℕ) (next : Latest) → placingTo (counted t r a) ≡ given q next → Due byCount t r a q next
   count-due q next e =
-      let c : ℕ = countedCycle t r a in
       let p = passed (inReach t (a .clock) (countedCycle t r a)) (added r (countedCycle t r a) (a .octets) (a .quota)) NoRoom q next e in
       let d = added-given r (countedCycle t r a) (a .octets) (a .quota) q next (p .1) in
       let b = and-parts (leb (a .clock) lastTick) (ltb (countedCycle t r a) (current t (a .clock) + t .bins)) (p .0) in
@@ -94,6 +93,8 @@ module _ (t : Terms) (quota stamp clock : ℕ) (r : Latest) (a : Ask) (legal : L
 
 pub count-duties : Duties byCount
 count-duties = record {
+  refusals = λ t r a f. failed (inReach t (a .clock) (countedCycle t r a)) (added r (countedCycle t r a) (a .octets) (a .quota)) NoRoom f (inr refl)
+      (added-refused r (countedCycle t r a) (a .octets) (a .quota) f);
   due = λ t quota stamp clock r a q next legal led asked e. count-due t quota stamp clock r a legal asked q next e;
   begins = λ t i legal. record { order = omega arith; room = λ e. omega arith };
   accepts = λ t quota stamp clock r a i u j legal led asked fits up inside most. count-accepts t quota stamp clock r a legal asked i u j fits up inside most;

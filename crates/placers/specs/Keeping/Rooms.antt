@@ -1,10 +1,10 @@
 -- What both placers owe by the record that they share.
-use mathlib.Core.Path.{_≡_, refl, sym, ap, _∙_}
+use mathlib.Core.Path.{_≡_, refl, sym, ap, subst, _∙_}
 use mathlib.Core.Bool.{Bool, true, false, cond}
 use mathlib.Core.Logic.{_⊎_, inl, inr}
 use Prim.Native.Nat.{ℕ, _+_, _<_, _≤_}
 use native.Mathlib.Omega.{arith}
-use lib.Dec.{eqb, leb}
+use lib.Dec.{eqb}
 use Rattle.std.specs.declared.result.Result.{Result}
 use Rattle.std.specs.declared.result.Result.the-variants.{Ok, Err}
 use Rattle.std.proofs.shelf.Tests.{leb-true, le-leb, eq-eqb, ne-eqb, cond-true, cond-false, cases-eq}
@@ -14,7 +14,7 @@ use Rattle.placers.specs.declared.terms.Terms.{Terms}
 use Rattle.placers.specs.declared.terms.Ask.{Ask}
 use Rattle.placers.specs.declared.table.Latest.{Latest}
 use Rattle.placers.specs.Terms.{current, shiftIn}
-use Rattle.placers.specs.Placers.{Placing, given, octetsIn, Due}
+use Rattle.placers.specs.Placers.{given, refused, octetsIn, Due, Refusal}
 use Rattle.placers.specs.Latest.{heldIn, hasRoom, added, placingTo, Fits, rulesBy}
 
 pub in-same : (last octets q : ℕ) → last ≡ q → octetsIn last octets q ≡ octets
@@ -28,6 +28,12 @@ pub passed : (b : Bool) (x : Result Latest PlacerFault) (f : PlacerFault) (c : �
     → placingTo (cond b x (Err f)) ≡ given c next → (b ≡ true) × (placingTo x ≡ given c next)
 passed true x f c next e = (refl, e)
 passed false x f c next e = let k : _≡_ {A = ℕ} 0 1 = cc in absurd (omega arith)
+
+-- A refusal is that of a check, or one after it.
+pub failed : (b : Bool) (x : Result Latest PlacerFault) (g f : PlacerFault) → Refusal g
+    → (placingTo x ≡ refused f → Refusal f) → placingTo (cond b x (Err g)) ≡ refused f → Refusal f
+failed true x g f n after e = after e
+failed false x g f n after e = let k : g ≡ f = cc in subst Refusal k n
 
 module _ (r : Latest) (q w quota : ℕ) where
   abbrev pub more : Latest
@@ -43,6 +49,9 @@ module _ (r : Latest) (q w quota : ℕ) where
       let p = passed (hasRoom r q w quota) (Ok more) NoRoom c next e in
       let z : given q more ≡ given c next = p .1 in
       record { room = leb-true (heldIn r q + w) quota (p .0); is-cycle = cc; is-next = cc }
+
+  pub added-refused : (f : PlacerFault) → placingTo (added r q w quota) ≡ refused f → Refusal f
+  added-refused f = failed (hasRoom r q w quota) (Ok more) NoRoom f (inr refl) (λ e. let k : _≡_ {A = ℕ} 0 1 = cc in absurd (omega arith))
 
   pub given-added : heldIn r q + w ≤ quota → placingTo (added r q w quota) ≡ given q more
   given-added h = ap placingTo (cond-true (hasRoom r q w quota) (Ok more) (Err NoRoom) (le-leb (heldIn r q + w) quota h))

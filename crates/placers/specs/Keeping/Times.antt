@@ -1,19 +1,20 @@
 -- The placer by time keeps the duties.
-use mathlib.Core.Path.{_≡_, refl, sym, ap, _∙_}
-use mathlib.Core.Bool.{Bool, true, false, cond}
+use mathlib.Core.Path.{_≡_, refl, ap, _∙_}
+use mathlib.Core.Bool.{true}
+use mathlib.Core.Logic.{inl}
 use Prim.Native.Nat.{ℕ, _+_, _<_, _≤_}
 use native.Mathlib.Omega.{arith}
-use Rattle.std.specs.declared.result.Result.the-variants.{Ok, Err}
+use Rattle.std.specs.declared.result.Result.the-variants.{Err}
 use Rattle.std.proofs.shelf.Tests.{cond-true}
 use Rattle.placers.specs.declared.faults.PlacerFault.the-variants.{NotInside}
 use Rattle.placers.specs.declared.terms.Terms.{Terms}
 use Rattle.placers.specs.declared.terms.Ask.{Ask}
 use Rattle.placers.specs.declared.table.Latest.{Latest}
-use Rattle.placers.specs.Terms.{inputCycle, Inside, isInside, current, shiftIn, LegalTerms}
-use Rattle.placers.specs.Placers.{Placing, given, octetsIn, Asked, Led, renewed, placed, Due, Accepted, Duties}
+use Rattle.placers.specs.Terms.{inputCycle, Inside, isInside, shiftIn, LegalTerms}
+use Rattle.placers.specs.Placers.{given, octetsIn, Asked, Led, renewed, placed, Due, Accepted, Duties}
 use Rattle.placers.specs.Latest.{heldIn, added, placingTo, Fits}
 use Rattle.placers.specs.Timed.{timedCycle, timed, byTime, TellsInput}
-use Rattle.placers.specs.Keeping.Rooms.{passed, Added, added-given, given-added, more, due-by, sent-in, fits-more}
+use Rattle.placers.specs.Keeping.Rooms.{passed, failed, added-refused, Added, added-given, given-added, more, due-by, sent-in, fits-more}
 use Rattle.placers.specs.Keeping.Inputs.{inside-own, inside-one, is-inside, inputs-onward, not-before, before-shift}
 
 module _ (t : Terms) (r : Latest) (a : Ask) where
@@ -51,7 +52,6 @@ module _ (t : Terms) (quota stamp clock : ℕ) (r : Latest) (a : Ask) (legal : L
   time-accepts : (i u j : ℕ) → Fits t r i u → i ≤ j → Inside t j (a .stamp) (a .octets) → octetsIn i u j + a .octets ≤ quota
       → Accepted (placingTo (timed t r a)) (j + shiftIn t) (λ next. Fits t next j (octetsIn i u j + a .octets))
   time-accepts i u j fits up inside most =
-      let c : ℕ = timedCycle t (a .stamp) in
       let one = inside-one t pos j (a .stamp) (a .octets) (omega (arith, asked .shortest)) inside in
       let s = sent-in t r i u j fits up in
       let e : heldIn r (timedCycle t (a .stamp)) ≡ heldIn r (j + shiftIn t) = ap (λ (x : ℕ). heldIn r (x + shiftIn t)) one in
@@ -68,6 +68,8 @@ module _ (t : Terms) (quota stamp clock : ℕ) (r : Latest) (a : Ask) (legal : L
 
 pub time-duties : Duties byTime
 time-duties = record {
+  refusals = λ t r a f. failed (isInside t (a .stamp) (a .octets)) (added r (timedCycle t (a .stamp)) (a .octets) (a .quota)) NotInside f (inl refl)
+      (added-refused r (timedCycle t (a .stamp)) (a .octets) (a .quota) f);
   due = λ t quota stamp clock r a q next legal led asked e. time-due t quota stamp clock r a legal led asked q next e;
   begins = λ t i legal. record { order = omega arith; room = λ e. omega arith };
   accepts = λ t quota stamp clock r a i u j legal led asked fits up inside most. time-accepts t quota stamp clock r a legal led asked i u j fits up inside most;

@@ -1,6 +1,5 @@
-use mathlib.Core.Path.{_≡_, sym, subst}
+use mathlib.Core.Path.{sym, subst}
 use Prim.Native.Nat.{ℕ}
-use Rattle.placers.specs.Terms.{shiftIn}
 use Rattle.placers.specs.Sequences.{Passes}
 use Rattle.placers.proofs.Passing.{passes}
 use Rattle.placers.proofs.placer.latest_after.Needs as need

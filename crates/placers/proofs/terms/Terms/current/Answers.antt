@@ -1,7 +1,5 @@
-use mathlib.Core.Path.{_≡_, refl, ap}
-use Prim.Native.Nat.{_/_, _*_, _≤_}
+use mathlib.Core.Path.{refl}
 use native.Mathlib.Nat.{div-le-self, div-mul-le-self}
-use native.Mathlib.Omega.{arith}
 use Rattle.placers.proofs.terms.Terms.current.Needs as need
 
 pub returns-else-self-eq0 : need.returns-else-self-eq0

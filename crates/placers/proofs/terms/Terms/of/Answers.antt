@@ -1,5 +1,3 @@
-use mathlib.Core.Path.{_≡_, refl, sym, ap, subst, _∙_}
-use Prim.Native.Nat.{ℕ, _%_}
 use Rattle.book.specs.Sets.{numbersOf}
 use Rattle.book.proofs.Legality.{settings-legal}
 use Rattle.placers.proofs.Legality.{found-cycle, found-terms, found-legal}
