@@ -2,4 +2,5 @@
 mod books;
 mod naive;
 mod placers;
+mod racks;
 mod sets;
