@@ -1,4 +1,6 @@
 // The reservation book of a port: bins needed, settings, admission, and the rows of 128 streams.
+#![tactic(auto)]
+
 pub mod faults;
 pub mod ledger;
 pub mod rows;

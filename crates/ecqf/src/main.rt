@@ -1,4 +1,6 @@
 // Reads a script from standard input, makes the calls that it names on a book, and prints what each answered.
+#![tactic(auto)]
+
 use crate::answers::Answer;
 use crate::bench::Bench;
 use crate::printing::Page;

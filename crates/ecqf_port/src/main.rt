@@ -1,4 +1,6 @@
 // Reads a script from standard input, makes the calls that it names on a book or a port, and prints what each answered.
+#![tactic(auto)]
+
 use crate::bench::Bench;
 use crate::lines::Lines;
 use crate::printing::Page;

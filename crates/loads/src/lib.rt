@@ -1,4 +1,6 @@
 // Loads: what a port keeps of a frame while it waits. Marks in modules, lift rows in the controller.
+#![tactic(auto)]
+
 ghost use Rattle.std.specs.Prelude.{◌≡◌, ℕ};
 
 pub mod lifts;

@@ -1,4 +1,6 @@
 // Placers: which cycle of its class a frame gets, by its time or by counting.
+#![tactic(auto)]
+
 pub mod by_count;
 pub mod by_time;
 pub mod faults;

@@ -1,6 +1,8 @@
 // What the benchmark times: one million frames in and out of a port in four classes, over each rack; see bench/.
 // Alone it prints how many departures came and a sum over them, so that no call can be left out; with the word `time` the
 // nanoseconds of each as well, and those of a long run in which nothing or little leaves.
+#![tactic(auto)]
+
 mod idle;
 mod ports;
 mod traffic;

@@ -1,4 +1,6 @@
 // The worked examples, as one table with one proof; and the tests of all crates, which would prove those a second time.
+#![tactic(auto)]
+
 ghost use Rattle.std.specs.Prelude.{◌≡◌, length};
 ghost use Rattle.port_examples.specs.Worked.{table, Worked};
 

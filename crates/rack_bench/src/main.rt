@@ -1,5 +1,7 @@
 // What the benchmark times: ten million pairs of a put and a take over 32 bins, on each rack; see bench/.
 // Alone it prints what was taken, so that no call can be left out; with the word `time` the nanoseconds of each as well.
+#![tactic(auto)]
+
 use loads::marks::Mark;
 use racks::cells::CellSlots;
 use racks::faults::RackFault;

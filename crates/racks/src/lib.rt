@@ -1,4 +1,6 @@
 // Racks: stores of loads in numbered bins, each first in, first out. Two stores of places keep one meaning.
+#![tactic(auto)]
+
 pub mod calls;
 pub mod cells;
 pub mod faults;

@@ -11,7 +11,7 @@ loop-row-init c = refl
 pub loop-row-preserved : goal.loop-row-preserved
 loop-row-preserved c =
     mapped-more (settled (numbers_of c.args.settings.now) c.args.clock) c.args.rows.now c.loop-row.rows c.loop-row.row-index Free
-    c.start-cycle.new.self c.loop-row-test.true c.loop-row.invariant c.start-cycle.ensures
+    c.start_cycle.new.self c.loop-row-test.true c.loop-row.invariant c.start_cycle.ensures
 
 pub returns : goal.returns
 returns c = mapped-all (settled (numbers_of c.args.settings.now) c.args.clock) c.args.rows.now c.loop-row.rows c.loop-row.row-index c.loop-row-test.false c.loop-row.invariant

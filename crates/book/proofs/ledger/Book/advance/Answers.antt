@@ -38,9 +38,9 @@ invariant-of-self c = (
 pub returns : goal.returns
 returns c =
     let b : BookState = state_of c.args.self.now in
-    let h = or_from (ltb c.args.until b.clock) (ltb last_tick c.args.until) (le-ltb c.args.until b.clock c.if-until-self.false) (le-ltb last_tick c.args.until c.if-until-gt-LAST-TICK.false) in
+    let h = or_from (ltb c.args.until b.clock) (ltb last_tick c.args.until) (le-ltb c.args.until b.clock c.if-until-self.false) (le-ltb last_tick c.args.until c.if-until-gt-LAST_TICK.false) in
     let e = advance-at b c.args.until false h in
     record {
       answer = sym (ap (λ w. w.0) e);
-      next = ap (λ (rs : List Row). record { settings = b.settings; clock = c.args.until; rows = rs }) c.start-cycles.ensures ∙ sym (ap (λ w. w.1) e);
+      next = ap (λ (rs : List Row). record { settings = b.settings; clock = c.args.until; rows = rs }) c.start_cycles.ensures ∙ sym (ap (λ w. w.1) e);
     }

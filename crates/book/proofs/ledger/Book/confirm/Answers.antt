@@ -14,7 +14,7 @@ returns-then-not-is-held-by c =
     record { answer = sym (ap (λ w. w.0) e); next = sym (ap (λ w. w.1) e) }
 
 pub bounds-rows-stream : goal.bounds-rows-stream
-bounds-rows-stream c = omega (arith, held-there (state_of c.args.self.now) c.args.note (sym c.if-not-is-held-by.ensures))
+bounds-rows-stream c = omega (arith, held-there (state_of c.args.self.now) c.args.note (sym c.if-not-is_held_by.ensures))
 
 pub invariant-of-self : goal.invariant-of-self
 invariant-of-self c = (
@@ -32,7 +32,7 @@ invariant-of-self c = (
 pub returns : goal.returns
 returns c =
     let b : BookState = state_of c.args.self.now in
-    let e = confirm-at b c.args.note true (sym c.if-not-is-held-by.ensures) in
+    let e = confirm-at b c.args.note true (sym c.if-not-is_held_by.ensures) in
     record {
       answer = sym (ap (λ w. w.0) e);
       next = ap (λ (r : Row). with_rows b (set b.rows c.args.note.stream r)) c.confirm.ensures ∙ sym (ap (λ w. w.1) e);

@@ -35,7 +35,7 @@ invariant-of-self-2 c = (
 pub returns : goal.returns
 returns c =
     let b : BookState = state_of c.args.self.now in
-    let e = release-at b c.args.stream false (Some c.in-Some.until) (le-ltb 127 c.args.stream c.if-stream-gt-LAST-STREAM.false) (sym c.in-Some.ensures.answer) in
+    let e = release-at b c.args.stream false (Some c.in-Some.until) (le-ltb 127 c.args.stream c.if-stream-gt-LAST_STREAM.false) (sym c.in-Some.ensures.answer) in
     record {
       answer = sym (ap (λ w. w.0) e);
       next = ap (λ (r : Row). with_rows b (set b.rows c.args.stream r)) c.release.ensures.next ∙ sym (ap (λ w. w.1) e);

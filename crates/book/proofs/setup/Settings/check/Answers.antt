@@ -43,8 +43,8 @@ invariant-of-result c =
 
 pub returns : goal.returns
 returns c =
-    let t : SetNumbers = told c.args.number c.args.delay c.args.dead-time c.args.classes.now c.args.phases.now in
-    let e = set_at t true true true (sym c.if-not-in-number.ensures) (sym c.if-not-within-limits.ensures) (sym c.if-not-enough-bins.ensures) in
-    let same = same-told c.args.number c.args.delay c.args.dead-time c.args.classes.now c.args.phases.now c.padded.result c.padded-2.result
+    let t : SetNumbers = told c.args.number c.args.delay c.args.dead_time c.args.classes.now c.args.phases.now in
+    let e = set_at t true true true (sym c.if-not-in_number.ensures) (sym c.if-not-within_limits.ensures) (sym c.if-not-enough-bins.ensures) in
+    let same = same-told c.args.number c.args.delay c.args.dead_time c.args.classes.now c.args.phases.now c.padded.result c.padded-2.result
     c.padded.ensures c.padded-2.ensures in
     (e, same, legal-from t e)

@@ -10,4 +10,4 @@ pub returns-then-not-class-fits : goal.returns-then-not-class-fits
 returns-then-not-class-fits c = sym (below_fails (class_fits c.args.classes.now) _ c.loop-c.c (omega arith) (sym c.if-not-class-fits.ensures))
 
 pub loop-c-preserved : goal.loop-c-preserved
-loop-c-preserved c = below_more (class_fits c.args.classes.now) c.loop-c.c c.loop-c.invariant (sym c.if-not-class-fits.ensures)
+loop-c-preserved c = below_more (class_fits c.args.classes.now) c.loop-c.c c.loop-c.invariant (sym c.if-not-class_fits.ensures)

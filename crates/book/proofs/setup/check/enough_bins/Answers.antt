@@ -14,4 +14,4 @@ returns-then-not-serves-all c =
 pub loop-c-preserved : goal.loop-c-preserved
 loop-c-preserved c =
     below_more (λ (k : ℕ). serves_all c.args.delay c.args.phases.now (get_or c.args.classes.now k no_class)) c.loop-c.c c.loop-c.invariant
-    (sym c.if-not-serves-all.ensures)
+    (sym c.if-not-serves_all.ensures)
