@@ -19,21 +19,16 @@ returns-then-until-self c =
     let e = advance-at b c.args.until true h in
     record { answer = sym (ap (λ w. w.0) e); next = sym (ap (λ w. w.1) e) }
 
-pub slice-bounds-start-cycles-end : goal.slice-bounds-start-cycles-end
-slice-bounds-start-cycles-end c = sym c.args.self.now.full
+pub slice_bounds-start_cycles-end : goal.slice_bounds-start_cycles-end
+slice_bounds-start_cycles-end c = sym c.args.self.now.full
 
-pub invariant-of-self : goal.invariant-of-self
-invariant-of-self c = (
-  ap length c.start-cycles.ensures ∙ length-map _ _ ∙ c.args.self.now.full,
-  (
-    c.if-until-gt-LAST-TICK.false,
-    (
-      ap (λ (rs : List Row). is_some (over_fault (numbers_of c.args.self.now.settings) rs)) c.start-cycles.ensures
-          ∙ over-settled (numbers_of c.args.self.now.settings) c.args.until c.args.self.now.rows c.args.self.now.within,
-      tt,
-    ),
-  ),
-)
+pub invariant_of-self : goal.invariant_of-self
+invariant_of-self c = record {
+  full = ap length c.start_cycles.ensures ∙ length-map _ _ ∙ c.args.self.now.full;
+  timely = c.if-until-gt-LAST_TICK.false;
+  within = ap (λ (rs : List Row). is_some (over_fault (numbers_of c.args.self.now.settings) rs)) c.start_cycles.ensures
+      ∙ over-settled (numbers_of c.args.self.now.settings) c.args.until c.args.self.now.rows c.args.self.now.within;
+}
 
 pub returns : goal.returns
 returns c =

@@ -8,26 +8,21 @@ use Rattle.book.proofs.Answering.{confirm-at, held-there}
 use Rattle.book.proofs.Within.{over-confirmed}
 use Rattle.book.proofs.ledger.Book.confirm.Goals as goal
 
-pub returns-then-not-is-held-by : goal.returns-then-not-is-held-by
-returns-then-not-is-held-by c =
-    let e = confirm-at (state_of c.args.self.now) c.args.note false (sym c.if-not-is-held-by.ensures) in
+pub returns-then-not-is_held_by : goal.returns-then-not-is_held_by
+returns-then-not-is_held_by c =
+    let e = confirm-at (state_of c.args.self.now) c.args.note false (sym c.if-not-is_held_by.ensures) in
     record { answer = sym (ap (λ w. w.0) e); next = sym (ap (λ w. w.1) e) }
 
 pub bounds-rows-stream : goal.bounds-rows-stream
 bounds-rows-stream c = omega (arith, held-there (state_of c.args.self.now) c.args.note (sym c.if-not-is_held_by.ensures))
 
-pub invariant-of-self : goal.invariant-of-self
-invariant-of-self c = (
-  length-set _ _ _ ∙ c.args.self.now.full,
-  (
-    c.args.self.now.timely,
-    (
-      ap (λ (r : Row). is_some (over_fault (numbers_of c.args.self.now.settings) (set c.args.self.now.rows c.args.note.stream r))) c.confirm.ensures
-          ∙ over-confirmed (numbers_of c.args.self.now.settings) c.args.self.now.rows c.args.note.stream c.args.self.now.within,
-      tt,
-    ),
-  ),
-)
+pub invariant_of-self : goal.invariant_of-self
+invariant_of-self c = record {
+  full = length-set _ _ _ ∙ c.args.self.now.full;
+  timely = c.args.self.now.timely;
+  within = ap (λ (r : Row). is_some (over_fault (numbers_of c.args.self.now.settings) (set c.args.self.now.rows c.args.note.stream r))) c.confirm.ensures
+      ∙ over-confirmed (numbers_of c.args.self.now.settings) c.args.self.now.rows c.args.note.stream c.args.self.now.within;
+}
 
 pub returns : goal.returns
 returns c =

@@ -29,11 +29,11 @@ returns-then-not-hold c =
     let e = hold-state (state_of c.args.self.now) c.args.stream c.args.booking (sym c.if-lacks.ensures) (sym c.if-not-fits.ensures) (sym c.if-not-hold.ensures.answer) in
     record { answer = sym (ap (λ w. w.0) e); next = sym (ap (λ w. w.1) e); spendable = tt }
 
-pub slice-bounds-over-fault-end : goal.slice-bounds-over-fault-end
-slice-bounds-over-fault-end c = sym (length-set c.args.self.now.rows c.args.stream c.hold.new.self ∙ c.args.self.now.full)
+pub slice_bounds-over_fault-end : goal.slice_bounds-over_fault-end
+slice_bounds-over_fault-end c = sym (length-set c.args.self.now.rows c.args.stream c.hold.new.self ∙ c.args.self.now.full)
 
-pub over-fault-requires : goal.over-fault-requires
-over-fault-requires c = omega (arith, length-set c.args.self.now.rows c.args.stream c.hold.new.self, c.args.self.now.full)
+pub over_fault-requires : goal.over_fault-requires
+over_fault-requires c = omega (arith, length-set c.args.self.now.rows c.args.stream c.hold.new.self, c.args.self.now.full)
 
 pub returns-in-Some : goal.returns-in-Some
 returns-in-Some c =

@@ -9,28 +9,23 @@ use Rattle.book.proofs.Answering.{release-at}
 use Rattle.book.proofs.Within.{over-released}
 use Rattle.book.proofs.ledger.Book.release.Goals as goal
 
-pub returns-then-stream-gt-LAST-STREAM : goal.returns-then-stream-gt-LAST-STREAM
-returns-then-stream-gt-LAST-STREAM c =
-    let e = release-at (state_of c.args.self.now) c.args.stream true _ (lt-ltb 127 c.args.stream c.if-stream-gt-LAST-STREAM.true) refl in
+pub returns-then-stream-gt-LAST_STREAM : goal.returns-then-stream-gt-LAST_STREAM
+returns-then-stream-gt-LAST_STREAM c =
+    let e = release-at (state_of c.args.self.now) c.args.stream true _ (lt-ltb 127 c.args.stream c.if-stream-gt-LAST_STREAM.true) refl in
     record { answer = sym (ap (λ w. w.0) e); next = sym (ap (λ w. w.1) e) }
 
-pub returns-in-default : goal.returns-in-default
-returns-in-default c =
-    let e = release-at (state_of c.args.self.now) c.args.stream false None (le-ltb 127 c.args.stream c.if-stream-gt-LAST-STREAM.false) (sym c.in-default.ensures.answer) in
+pub returns-in_default : goal.returns-in_default
+returns-in_default c =
+    let e = release-at (state_of c.args.self.now) c.args.stream false None (le-ltb 127 c.args.stream c.if-stream-gt-LAST_STREAM.false) (sym c.in_default.ensures.answer) in
     record { answer = sym (ap (λ w. w.0) e); next = sym (ap (λ w. w.1) e) }
 
-pub invariant-of-self-2 : goal.invariant-of-self-2
-invariant-of-self-2 c = (
-  length-set _ _ _ ∙ c.args.self.now.full,
-  (
-    c.args.self.now.timely,
-    (
-      ap (λ (r : Row). is_some (over_fault (numbers_of c.args.self.now.settings) (set c.args.self.now.rows c.args.stream r))) c.release.ensures.next
-          ∙ over-released (numbers_of c.args.self.now.settings) c.args.self.now.clock c.args.self.now.rows c.args.stream c.args.self.now.within,
-      tt,
-    ),
-  ),
-)
+pub invariant_of-self-2 : goal.invariant_of-self-2
+invariant_of-self-2 c = record {
+  full = length-set _ _ _ ∙ c.args.self.now.full;
+  timely = c.args.self.now.timely;
+  within = ap (λ (r : Row). is_some (over_fault (numbers_of c.args.self.now.settings) (set c.args.self.now.rows c.args.stream r))) c.release.ensures.next
+      ∙ over-released (numbers_of c.args.self.now.settings) c.args.self.now.clock c.args.self.now.rows c.args.stream c.args.self.now.within;
+}
 
 pub returns : goal.returns
 returns c =

@@ -13,11 +13,11 @@ product c = mul-le-mul c.times.ensures.bound c.booked.ensures.bound
 pub loop-faster-init : goal.loop-faster-init
 loop-faster-init c = (omega (arith, weighed-none (numbers_of c.args.settings.now) c.args.rows.now c.args.class), omega arith)
 
-pub overflow-mul-sum : goal.overflow-mul-sum
-overflow-mul-sum c = omega (arith, product c)
+pub overflow_mul-sum : goal.overflow_mul-sum
+overflow_mul-sum c = omega (arith, product c)
 
-pub overflow-add-sum-in-loop-faster : goal.overflow-add-sum-in-loop-faster
-overflow-add-sum-in-loop-faster c =
+pub overflow_add-sum-in-loop-faster : goal.overflow_add-sum-in-loop-faster
+overflow_add-sum-in-loop-faster c =
     let l = settings-legal c.args.settings.now in
     let h : c.loop-faster.faster ≤ 3 = omega (arith, l.four_classes) in
     omega (arith, product c)
@@ -35,5 +35,5 @@ returns c =
     let e : c.loop-faster.faster ≡ suc c.args.class = omega arith in
     subst (λ (n : ℕ). c.loop-faster.sum ≡ 1542 + (numbers_of c.args.settings.now).dead_time + weighed (numbers_of c.args.settings.now) c.args.rows.now c.args.class n) e c.loop-faster.invariant.0
 
-pub overflow-add-faster-end : goal.overflow-add-faster-end
-overflow-add-faster-end c = let l = settings-legal c.args.settings.now in omega (arith, l.four_classes)
+pub overflow_add-faster-end : goal.overflow_add-faster-end
+overflow_add-faster-end c = let l = settings-legal c.args.settings.now in omega (arith, l.four_classes)

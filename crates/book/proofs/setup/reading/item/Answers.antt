@@ -6,8 +6,8 @@ use Rattle.book.proofs.setup.reading.item.Goals as goal
 pub bounds-items-at : goal.bounds-items-at
 bounds-items-at g c = omega (arith, front_long c.args.count c.args.items.now c.requires, c.if-at-count.true)
 
-pub offset-bounds-items-at : goal.offset-bounds-items-at
-offset-bounds-items-at g c = omega (arith, front_long c.args.count c.args.items.now c.requires, c.if-at-count.true)
+pub offset_bounds-items-at : goal.offset_bounds-items-at
+offset_bounds-items-at g c = omega (arith, front_long c.args.count c.args.items.now c.requires, c.if-at-count.true)
 
 pub returns-then-at-count : goal.returns-then-at-count
 returns-then-at-count g c = λ d.
