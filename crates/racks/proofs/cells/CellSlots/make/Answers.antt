@@ -7,40 +7,28 @@ use Rattle.racks.proofs.cells.CellSlots.make.Goals as goal
 abbrev zeros : List ℕ
 zeros = replicate 33 0
 
-pub invariant-of-result : goal.invariant-of-result
-invariant-of-result c =
+pub invariant_of-result : goal.invariant_of-result
+invariant_of-result c =
     let p = c.args.plan in
     let n = p.bins in
     let most = c.served-total.result in
     let nx = c.link.new.next in
-    let l = c.all-free.result in
+    let l = c.all_free.result in
     let hn : n < 33 = omega (arith, p.few_bins) in
-    let un : get_or l.counts n 0 ≡ most = ap (λ (z : List ℕ). get_or z n 0) c.all-free.ensures.counts ∙ get_or-set_same zeros n most 0 hn in
+    let un : get_or l.counts n 0 ≡ most = ap (λ (z : List ℕ). get_or z n 0) c.all_free.ensures.counts ∙ get_or-set_same zeros n most 0 hn in
     let uo : (a : ℕ) → (a ≡ n → ⊥) → get_or l.counts a 0 ≡ 0 =
-    λ a x. ap (λ (z : List ℕ). get_or z a 0) c.all-free.ensures.counts ∙ get_or-set_other zeros n a most 0 x ∙ get_or-zeros 33 a in
-    let fn : get_or l.firsts n 0 ≡ 0 = ap (λ (z : List ℕ). get_or z n 0) c.all-free.ensures.firsts ∙ get_or-zeros 33 n in
-    let ln : get_or l.lasts n 0 ≡ most - 1 = ap (λ (z : List ℕ). get_or z n 0) c.all-free.ensures.lasts ∙ get_or-set_same zeros n (most - 1) 0 hn in (
-      p.few_bins,
-      (
-        omega (arith, c.served-total.ensures.low, p.low_total),
-        (
-          refl,
-          (
-            omega (arith, c.served-total.ensures.long, c.link.auto.next),
-            (
-              new-once n most nx l.firsts l.lasts l.counts un uo fn ln c.link.ensures,
-              (
-                new-inside n most nx l.firsts l.lasts l.counts un uo fn ln c.link.ensures,
-                (
-                  new-ends n most nx l.firsts l.lasts l.counts un uo fn ln c.link.ensures,
-                  (new-held n most nx l.firsts l.lasts l.counts un uo fn ln c.link.ensures, tt),
-                ),
-              ),
-            ),
-          ),
-        ),
-      ),
-    )
+    λ a x. ap (λ (z : List ℕ). get_or z a 0) c.all_free.ensures.counts ∙ get_or-set_other zeros n a most 0 x ∙ get_or-zeros 33 a in
+    let fn : get_or l.firsts n 0 ≡ 0 = ap (λ (z : List ℕ). get_or z n 0) c.all_free.ensures.firsts ∙ get_or-zeros 33 n in
+    let ln : get_or l.lasts n 0 ≡ most - 1 = ap (λ (z : List ℕ). get_or z n 0) c.all_free.ensures.lasts ∙ get_or-set_same zeros n (most - 1) 0 hn in record {
+      few_bins = p.few_bins;
+      low_total = omega (arith, c.served-total.ensures.low, p.low_total);
+      whole_room = refl;
+      next_long = omega (arith, c.served-total.ensures.long, c.link.auto.next);
+      once = new-once n most nx l.firsts l.lasts l.counts un uo fn ln c.link.ensures;
+      inside = new-inside n most nx l.firsts l.lasts l.counts un uo fn ln c.link.ensures;
+      ends = new-ends n most nx l.firsts l.lasts l.counts un uo fn ln c.link.ensures;
+      sum = new-held n most nx l.firsts l.lasts l.counts un uo fn ln c.link.ensures;
+    }
 
 pub returns : goal.returns
 returns c =
@@ -48,13 +36,13 @@ returns c =
     let n = p.bins in
     let most = c.served-total.result in
     let nx = c.link.new.next in
-    let l = c.all-free.result in
+    let l = c.all_free.result in
     let hn : n < 33 = omega (arith, p.few_bins) in
-    let un : get_or l.counts n 0 ≡ most = ap (λ (z : List ℕ). get_or z n 0) c.all-free.ensures.counts ∙ get_or-set_same zeros n most 0 hn in
+    let un : get_or l.counts n 0 ≡ most = ap (λ (z : List ℕ). get_or z n 0) c.all_free.ensures.counts ∙ get_or-set_same zeros n most 0 hn in
     let uo : (a : ℕ) → (a ≡ n → ⊥) → get_or l.counts a 0 ≡ 0 =
-    λ a x. ap (λ (z : List ℕ). get_or z a 0) c.all-free.ensures.counts ∙ get_or-set_other zeros n a most 0 x ∙ get_or-zeros 33 a in
-    let fn : get_or l.firsts n 0 ≡ 0 = ap (λ (z : List ℕ). get_or z n 0) c.all-free.ensures.firsts ∙ get_or-zeros 33 n in
-    let ln : get_or l.lasts n 0 ≡ most - 1 = ap (λ (z : List ℕ). get_or z n 0) c.all-free.ensures.lasts ∙ get_or-set_same zeros n (most - 1) 0 hn in
+    λ a x. ap (λ (z : List ℕ). get_or z a 0) c.all_free.ensures.counts ∙ get_or-set_other zeros n a most 0 x ∙ get_or-zeros 33 a in
+    let fn : get_or l.firsts n 0 ≡ 0 = ap (λ (z : List ℕ). get_or z n 0) c.all_free.ensures.firsts ∙ get_or-zeros 33 n in
+    let ln : get_or l.lasts n 0 ≡ most - 1 = ap (λ (z : List ℕ). get_or z n 0) c.all_free.ensures.lasts ∙ get_or-set_same zeros n (most - 1) 0 hn in
     record {
       empty = new-lay n most nx l.firsts l.lasts l.counts un uo fn ln c.link.ensures;
       depth = refl;

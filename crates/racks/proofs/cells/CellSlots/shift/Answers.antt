@@ -17,8 +17,8 @@ bounds-self-place c =
     let k = shifting s from to l1 l2 l3 c.requires.0 c.requires.1.0 c.requires.1.1.0 c.requires.1.1.1 in
     omega (arith, first, first-inside k, s.next_long)
 
-pub invariant-of-self : goal.invariant-of-self
-invariant-of-self c =
+pub invariant_of-self : goal.invariant_of-self
+invariant_of-self c =
     let s = c.args.self.now in
     let from = c.args.from in
     let to = c.args.to in
@@ -36,7 +36,16 @@ invariant-of-self c =
     c.start.ensures.lasts ∙ ap (λ (z : List ℕ). set z to j) c.leave.ensures.lasts in
     let ec : l.counts ≡ more (less s.lists.counts from) to = c.start.ensures.counts ∙ ap (λ (z : List ℕ). more z to) c.leave.ensures.counts in
     let w = settled-none k j l.firsts l.lasts l.counts first el ec none ef in
-    (s.few_bins, (s.low_total, (s.whole_room, (s.next_long, (w.once, (w.inside, (w.ends, (w.held ∙ s.sum, tt))))))))
+    record {
+      few_bins = s.few_bins;
+      low_total = s.low_total;
+      whole_room = s.whole_room;
+      next_long = s.next_long;
+      once = w.once;
+      inside = w.inside;
+      ends = w.ends;
+      sum = w.held ∙ s.sum;
+    }
 
 pub returns-then-used-eq0 : goal.returns-then-used-eq0
 returns-then-used-eq0 c =
@@ -98,8 +107,8 @@ join-requires c =
       ),
     )
 
-pub invariant-of-self-2 : goal.invariant-of-self-2
-invariant-of-self-2 c =
+pub invariant_of-self-2 : goal.invariant_of-self-2
+invariant_of-self-2 c =
     let s = c.args.self.now in
     let from = c.args.from in
     let to = c.args.to in
@@ -119,7 +128,16 @@ invariant-of-self-2 c =
     let w = settled-more k j l.firsts l.lasts l.counts first el ec has ef in
     let long : s.sizes.total ≤ length (set s.next.now (get_or s.lists.lasts to 0) j) =
     omega (arith, s.next_long, length-set s.next.now (get_or s.lists.lasts to 0) j) in
-    (s.few_bins, (s.low_total, (s.whole_room, (long, (w.once, (w.inside, (w.ends, (w.held ∙ s.sum, tt))))))))
+    record {
+      few_bins = s.few_bins;
+      low_total = s.low_total;
+      whole_room = s.whole_room;
+      next_long = long;
+      once = w.once;
+      inside = w.inside;
+      ends = w.ends;
+      sum = w.held ∙ s.sum;
+    }
 
 pub returns : goal.returns
 returns c =

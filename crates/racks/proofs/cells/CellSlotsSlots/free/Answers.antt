@@ -40,7 +40,7 @@ returns c =
     let g = chain_of t.next.now t.lists.firsts t.lists.counts in
     let j = c.shift.result in
     let same = c.shift.ensures.sizes in
-    let mv = subst (λ (a : ℕ). Moved (n + 1) f g b a j) c.free-list-free.ensures c.shift.ensures.moved in
+    let mv = subst (λ (a : ℕ). Moved (n + 1) f g b a j) c.free_list-free.ensures c.shift.ensures.moved in
     let e = cells-freed n b j f g hb mv in
     record {
       answer = sym (ap (λ w. w.0) e);

@@ -2,8 +2,8 @@ use Rattle.std.proofs.Common.{refl, arith}
 use Rattle.racks.proofs.Limits.{base-low}
 use Rattle.racks.proofs.rows.RowSlots.base.Goals as goal
 
-pub overflow-mul-result : goal.overflow-mul-result
-overflow-mul-result c =
+pub overflow_mul-result : goal.overflow_mul-result
+overflow_mul-result c =
     let s = c.args.self.now in
     omega (arith, base-low c.args.bin s.sizes.bins s.sizes.depth c.requires s.few_bins s.low_depth)
 

@@ -15,14 +15,14 @@ returns-then-lacks c =
     let hm : length (rows_lay n d s.starts s.counts) ≤ b = omega (arith, length-tabled n (row_of d s.starts s.counts), leb-true n b (sym c.if-lacks.ensures)) in
     record { given = put-missing (rows_lay n d s.starts s.counts) b hm d s.sizes.total 0; depth = refl; total = refl; room = refl }
 
-pub returns-then-is-full : goal.returns-then-is-full
-returns-then-is-full c =
+pub returns-then-is_full : goal.returns-then-is_full
+returns-then-is_full c =
     let s = c.args.self.now in
     let b = c.args.bin in
     let n = s.sizes.bins in
     let d = s.sizes.depth in
     let hb : b < n = leb-false n b (sym c.if-lacks.ensures) in
-    let full = sym c.if-is-full.ensures in
+    let full = sym c.if-is_full.ensures in
     let sum = ap (λ (h : ℕ). leb d (get_or s.counts b 0) || leb s.sizes.total h) s.sum in
     record {
       given = put_full (rows_lay n d s.starts s.counts) b (rows-there n d s.starts s.counts b hb) d s.sizes.total 0
@@ -32,35 +32,25 @@ returns-then-is-full c =
       room = refl;
     }
 
-pub invariant-of-self : goal.invariant-of-self
-invariant-of-self c =
+pub invariant_of-self : goal.invariant_of-self
+invariant_of-self c =
     let s = c.args.self.now in
     let b = c.args.bin in
     let n = s.sizes.bins in
     let d = s.sizes.depth in
     let hb : b < n = leb-false n b (sym c.if-lacks.ensures) in
-    let full = sym c.if-is-full.ensures in
+    let full = sym c.if-is_full.ensures in
     let sum = ap (λ (h : ℕ). leb d (get_or s.counts b 0) || leb s.sizes.total h) s.sum in
     let hu : b < length s.counts = search rules in
-    let free : get_or s.counts b 0 < d = leb-false d (get_or s.counts b 0) (or_parts (leb d (get_or s.counts b 0)) (leb s.sizes.total s.held) full).0 in (
-      s.few_bins,
-      (
-        s.some_depth,
-        (
-          s.low_depth,
-          (
-            s.whole_room,
-            (
-              s.starts_within,
-              (
-                keep-le n d s.counts b (get_or s.counts b 0 + 1) hu s.counts_within (omega arith),
-                (omega (arith, s.sum, held-given n d s.starts s.counts s.starts_within b hb hu), tt),
-              ),
-            ),
-          ),
-        ),
-      ),
-    )
+    let free : get_or s.counts b 0 < d = leb-false d (get_or s.counts b 0) (or_parts (leb d (get_or s.counts b 0)) (leb s.sizes.total s.held) full).0 in record {
+      few_bins = s.few_bins;
+      some_depth = s.some_depth;
+      low_depth = s.low_depth;
+      whole_room = s.whole_room;
+      starts_within = s.starts_within;
+      counts_within = keep-le n d s.counts b (get_or s.counts b 0 + 1) hu s.counts_within (omega arith);
+      sum = omega (arith, s.sum, held-given n d s.starts s.counts s.starts_within b hb hu);
+    }
 
 pub returns : goal.returns
 returns c =
@@ -69,7 +59,7 @@ returns c =
     let n = s.sizes.bins in
     let d = s.sizes.depth in
     let hb : b < n = leb-false n b (sym c.if-lacks.ensures) in
-    let full = sym c.if-is-full.ensures in
+    let full = sym c.if-is_full.ensures in
     let sum = ap (λ (h : ℕ). leb d (get_or s.counts b 0) || leb s.sizes.total h) s.sum in
     let hu : b < length s.counts = search rules in
     let free : get_or s.counts b 0 < d = leb-false d (get_or s.counts b 0) (or_parts (leb d (get_or s.counts b 0)) (leb s.sizes.total s.held) full).0 in

@@ -7,16 +7,16 @@ use Rattle.racks.proofs.Rules.{take_count}
 use Rattle.racks.proofs.Picks.{at_read, count_none, count-there, take_none, take_short, take-refused, take-nothing, take-oldest, oldest-within, total_kept}
 use Rattle.racks.proofs.store.StoreRack.take.Goals as goal
 
-pub returns-in-err-holds : goal.returns-in-err-holds
-returns-in-err-holds g c =
+pub returns-in_err-holds : goal.returns-in_err-holds
+returns-in_err-holds g c =
     let s = c.args.self.now in
     let q = g.S.Slots in
     let ps = s.places.now in
     let lay = q.lay s.slots.now in
     let room = q.room s.slots.now in
     let b = c.args.bin in
-    let p = err_from_is_err_and c.from-residual.result c.from-residual.ensures.1 in
-    let n = count_none lay b _ c.in-err-holds.ensures in
+    let p = err_from_is_err_and c.from_residual.result c.from_residual.ensures.1 in
+    let n = count_none lay b _ c.in_err-holds.ensures in
     let e = take_none ps lay room b n.0 in
     rw (p.1, p.2) (record {
       answer = ap (λ (f : RackFault). Err f) n.1 ∙ sym (ap (λ w. w.0) e);
@@ -26,16 +26,16 @@ returns-in-err-holds g c =
       total = refl;
     })
 
-pub returns-then-is-short : goal.returns-then-is-short
-returns-then-is-short g c =
+pub returns-then-is_short : goal.returns-then-is_short
+returns-then-is_short g c =
     let s = c.args.self.now in
     let q = g.S.Slots in
     let ps = s.places.now in
     let lay = q.lay s.slots.now in
     let room = q.room s.slots.now in
     let b = c.args.bin in
-    let short : length ps < room = ltb-true (length ps) room (sym c.if-is-short.ensures.answer) in
-    let n = count-there lay b _ c.in-ok-holds.ensures in
+    let short : length ps < room = ltb-true (length ps) room (sym c.if-is_short.ensures.answer) in
+    let n = count-there lay b _ c.in_ok-holds.ensures in
     let e = take_short ps lay room b short n.0 in
     record {
       answer = sym (ap (λ w. w.0) e);
@@ -45,19 +45,19 @@ returns-then-is-short g c =
       total = refl;
     }
 
-pub returns-in-err-free : goal.returns-in-err-free
-returns-in-err-free g c =
+pub returns-in_err-free : goal.returns-in_err-free
+returns-in_err-free g c =
     let s = c.args.self.now in
     let q = g.S.Slots in
     let ps = s.places.now in
     let lay = q.lay s.slots.now in
     let room = q.room s.slots.now in
     let b = c.args.bin in
-    let long : room ≤ length ps = ltb-false (length ps) room (sym c.if-is-short.ensures.answer) in
-    let within = c.if-is-short.ensures.within in
-    let p = err_from_is_err_and c.from-residual-in-err-free.result c.from-residual-in-err-free.ensures.1 in
+    let long : room ≤ length ps = ltb-false (length ps) room (sym c.if-is_short.ensures.answer) in
+    let within = c.if-is_short.ensures.within in
+    let p = err_from_is_err_and c.from_residual-in_err-free.result c.from_residual-in_err-free.ensures.1 in
     let t = c.free.new.self in
-    let h = c.in-err-free.ensures in
+    let h = c.in_err-free.ensures in
     let e = take-refused ps lay room b long within (q.lay t) (q.room t) h.room h.next _ h.answer in
     rw (p.1, p.2) (record {
       answer = sym (ap (λ w. w.0) e);
@@ -75,9 +75,9 @@ read-requires g c =
     let lay = q.lay s.slots.now in
     let room = q.room s.slots.now in
     let b = c.args.bin in
-    let long : room ≤ length ps = ltb-false (length ps) room (sym c.if-is-short.ensures.answer) in
-    let within = c.if-is-short.ensures.within in
-    let h = c.in-ok-free.ensures in
+    let long : room ≤ length ps = ltb-false (length ps) room (sym c.if-is_short.ensures.answer) in
+    let within = c.if-is_short.ensures.within in
+    let h = c.in_ok-free.ensures in
     oldest-within ps lay room b long within c.in-Some.place (ap Ok (sym c.in-Some.is) ∙ h.answer)
 
 pub returns-in-None : goal.returns-in-None
@@ -88,10 +88,10 @@ returns-in-None g c =
     let lay = q.lay s.slots.now in
     let room = q.room s.slots.now in
     let b = c.args.bin in
-    let long : room ≤ length ps = ltb-false (length ps) room (sym c.if-is-short.ensures.answer) in
-    let within = c.if-is-short.ensures.within in
+    let long : room ≤ length ps = ltb-false (length ps) room (sym c.if-is_short.ensures.answer) in
+    let within = c.if-is_short.ensures.within in
     let t = c.free.new.self in
-    let h = c.in-ok-free.ensures in
+    let h = c.in_ok-free.ensures in
     let e = take-nothing ps lay room b long within (q.lay t) (q.room t) h.room h.next (ap Ok (sym c.in-None.is) ∙ h.answer) in
     record {
       answer = sym (ap (λ w. w.0) e);
@@ -109,10 +109,10 @@ returns-in-Some g c =
     let lay = q.lay s.slots.now in
     let room = q.room s.slots.now in
     let b = c.args.bin in
-    let long : room ≤ length ps = ltb-false (length ps) room (sym c.if-is-short.ensures.answer) in
-    let within = c.if-is-short.ensures.within in
+    let long : room ≤ length ps = ltb-false (length ps) room (sym c.if-is_short.ensures.answer) in
+    let within = c.if-is_short.ensures.within in
     let t = c.free.new.self in
-    let h = c.in-ok-free.ensures in
+    let h = c.in_ok-free.ensures in
     let j = c.in-Some.place in
     let some = ap Ok (sym c.in-Some.is) ∙ h.answer in
     let kept : c.read.new.places ≡ ps = c.read.ensures.kept in
