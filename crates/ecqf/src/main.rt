@@ -63,8 +63,8 @@ fn run(heap: Global, input: Stdin, bench: &mut Bench, page: &mut Page) -> io::Re
 }
 
 fn main(rt: HostRuntime) -> io::Result<()> {
+    let mut page = Page::new(rt.alloc(), rt.stdout())?;
     let mut bench = Bench::new(rt.alloc())?;
-    let mut page = Page::new(rt.stdout());
     let ran = run(rt.alloc(), rt.stdin(), &mut bench, &mut page);
     // Whatever came, the notes in hand are dropped, and what was printed is written.
     page.dropped(&bench.close());

@@ -4,6 +4,7 @@ use crate::words::Words;
 use book::faults::BookFault;
 use book::ledger::Book;
 use book::rows::{Booking, Row};
+use std::alloc::Global;
 use std::io;
 use std::io::{BufWriter, Stdout, Write};
 
@@ -15,11 +16,11 @@ pub(crate) struct Page {
 }
 
 impl Page {
-    pub(crate) fn new(out: Stdout) -> Page {
-        Page {
-            out: BufWriter::new(out),
+    pub(crate) fn new(heap: Global, out: Stdout) -> io::Result<Page> {
+        Ok(Page {
+            out: BufWriter::new(heap, out)?,
             written: Ok(()),
-        }
+        })
     }
 
     pub(crate) fn has_failed(&self) -> bool {
