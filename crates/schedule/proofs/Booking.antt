@@ -37,11 +37,11 @@ hold-checks false true taken o e = nope (cc)
 hold-checks false false true o e = nope (cc)
 hold-checks false false false o e = (refl, refl, refl, e)
 
-is_free : (r : Row) → is_free r ≡ true → r ≡ Free
-is_free Free e = refl
-is_free (Held k) e = nope (cc)
-is_free (Live k) e = nope (cc)
-is_free (Leaving k u) e = nope (cc)
+free-is : (r : Row) → is_free r ≡ true → r ≡ Free
+free-is Free e = refl
+free-is (Held k) e = nope (cc)
+free-is (Live k) e = nope (cc)
+free-is (Leaving k u) e = nope (cc)
 
 record HoldPassed (b : BookState) (x : ℕ) (k : Booking) : Type 0 where
   there : x ≤ 127
@@ -66,7 +66,7 @@ hold-passed b x k e =
         longest = leb-true k.longest 1522 g.1;
         quota = leb-true (k.longest + 20) k.quota f.1;
       };
-      free = is_free (row_of b x) (not-false (is_free (row_of b x)) p.2);
+      free = free-is (row_of b x) (not-false (is_free (row_of b x)) p.2);
       within = from-none over p.3;
     }
 

@@ -9,11 +9,11 @@ use Rattle.schedule.proofs.rooms.room_in.Goals as goal
 bounded : (a b x y : ℕ) → a ≡ x → b ≡ y → x ≤ 8 → y ≤ 12483 → a * b ≤ 8 * 12483
 bounded a b x y e f h k = let l : a ≤ 8 = omega arith in let m : b ≤ 12483 = omega arith in mul-le-mul l m
 
-pub overflow-mul-result : goal.overflow-mul-result
-overflow-mul-result c =
+pub overflow_mul-result : goal.overflow_mul-result
+overflow_mul-result c =
     let s : SetNumbers = numbers_of c.args.settings.now in
     let legal = settings-legal c.args.settings.now in
-    let e = bounded _ _ _ _ c.from-bins.ensures c.most-loads-most.ensures.value
+    let e = bounded _ _ _ _ c.from-bins.ensures c.most_loads-most.ensures.value
     (few-bins s c.args.class legal c.in-Some.class c.in-Some.ensures) (few-loads s c.args.class legal c.in-Some.class c.in-Some.ensures) in
     omega (arith, e)
 
@@ -23,7 +23,7 @@ returns-in-Some c =
     let legal = settings-legal c.args.settings.now in
     let found = c.in-Some.ensures in
     let b = c.from-bins.ensures in
-    let m = c.most-loads-most.ensures.value in
+    let m = c.most_loads-most.ensures.value in
     let few = few-bins s c.args.class legal c.in-Some.class found in
     record {
       room = cc (b, m, found-room s c.args.class c.in-Some.class (class-found s c.args.class c.in-Some.class found).1);

@@ -16,15 +16,15 @@ pub loop-class-preserved : goal.loop-class-preserved
 loop-class-preserved c =
     let s : SetNumbers = numbers_of c.args.settings.now in
     let k : ℕ = c.loop-class.class in
-    let own = c.room-in-own.ensures.room in
+    let own = c.room_in-own.ensures.room in
     let i = c.loop-class.invariant in
     let e : k ≡ k + 1 - 1 = omega arith in
     record {
       bins = omega (arith, i.bins, ap (λ (r : Room). r.bins) own, bins-more s k);
       depth = λ h. ap (λ (r : Room). r.depth) own ∙ ap (most_loads s) e;
       total = omega (arith, i.total, ap (λ (r : Room). r.total) own, most-more s k);
-      few_bins = omega (arith, i.few_bins, c.room-in-own.ensures.bins);
-      few_loads = omega (arith, i.few_loads, c.room-in-own.ensures.total);
+      few_bins = omega (arith, i.few_bins, c.room_in-own.ensures.bins);
+      few_loads = omega (arith, i.few_loads, c.room_in-own.ensures.total);
     }
 
 pub returns : goal.returns
