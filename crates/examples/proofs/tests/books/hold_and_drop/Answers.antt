@@ -6,5 +6,5 @@ use Rattle.examples.proofs.tests.books.hold_and_drop.Goals as goal
 
 pub unreachable-requires : goal.unreachable-requires
 unreachable-requires c =
-    good-dropped (state_of c.hold.new.self) c.in-ok-note.note c.in-Err.field-0-1 c.in-Err.field-0-0
-    c.in-ok-note.ensures.spendable (sym c.in-Err.ensures.answer)
+    good-dropped (state_of c.hold.new.self) c.in_ok-note.note c.in-Err.field-0-1 c.in-Err.field-0-0
+    c.in_ok-note.ensures.spendable (sym c.in-Err.ensures.answer)
