@@ -5,5 +5,5 @@ use Rattle.line.proofs.banks.UnitBank.confirm.Goals as goal
 pub returns : goal.returns
 returns c = record {
   answer = sym (ap (λ r. r.0) (absent-confirm c.args.note));
-  next = stays-confirm c.args.note c.args.-number;
+  next = stays-confirm c.args.note c.args._number;
 }

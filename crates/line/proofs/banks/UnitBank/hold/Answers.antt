@@ -4,7 +4,7 @@ use Rattle.line.proofs.banks.UnitBank.hold.Goals as goal
 
 pub returns : goal.returns
 returns c = record {
-  answer = sym (ap (λ r. r.0) (absent-hold c.args.-stream c.args.-booking));
-  next = stays-hold c.args.-stream c.args.-booking c.args.-number;
+  answer = sym (ap (λ r. r.0) (absent-hold c.args._stream c.args._booking));
+  next = stays-hold c.args._stream c.args._booking c.args._number;
   spendable = tt;
 }
