@@ -59,7 +59,7 @@ fn turn_at(settings: &Settings, class: u8, tick: u64) -> Turn
 
 // The turn of the lowest class whose current bin holds a load.
 pub(crate) fn first_waiting<R: Rack>(rack: &R, settings: &Settings, tick: u64) -> Option<Turn>
-    ensures { Waits (loads_by Item-as-Load.stream_of Item-as-Load.length_of) (numbers_of settings.now) tick (bin_of (R.Rack.bins rack.now)) result }
+    ensures { Waits (loads_by R.Item.Load.stream_of R.Item.Load.length_of) (numbers_of settings.now) tick (bin_of (R.Rack.bins rack.now)) result }
 {
     for class in 0..settings.class_count() {
         let turn = turn_at(settings, class, tick);
@@ -105,7 +105,7 @@ fn depart<R: Rack>(rack: &mut R, settings: &Settings, tick: u64) -> Option<Depar
 // of a cycle of the fastest class, since no other cycle starts before.
 fn quiet_until<R: Rack>(rack: &R, settings: &Settings, tick: u64, until: u64) -> u64
     requires { (tick < until) × (until ≤ 1099511627775) }
-    ensures { Idle (loads_by Item-as-Load.stream_of Item-as-Load.length_of) (numbers_of settings.now) tick until (R.Rack.bins rack.now) result }
+    ensures { Idle (loads_by R.Item.Load.stream_of R.Item.Load.length_of) (numbers_of settings.now) tick until (R.Rack.bins rack.now) result }
 {
     if rack.is_empty() {
         return until;

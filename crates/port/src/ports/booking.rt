@@ -17,7 +17,7 @@ impl<R: Rack, P: Placer> Port<R, P> {
         ensures answer { result ≡ (hold_of (state_of self.old.book) stream booking).0 }
         ensures next { state_of self.new.book ≡ (hold_of (state_of self.old.book) stream booking).1 }
         ensures spendable { IfOk result (λ note. held_by (state_of self.new.book) note ≡ true) }
-        ensures follows { ByRules (meant R.Rack.bins R.Rack.depth R.Rack.total Item-as-Load.stream_of Item-as-Load.length_of P.Placer.records P.Placer.rules) (Hold stream booking) self.old self.new (held result) }
+        ensures follows { ByRules (meant R.Rack.bins R.Rack.depth R.Rack.total R.Item.Load.stream_of R.Item.Load.length_of P.Placer.records P.Placer.rules) (Hold stream booking) self.old self.new (held result) }
     {
         self.book.hold(stream, booking)
     }
@@ -27,7 +27,7 @@ impl<R: Rack, P: Placer> Port<R, P> {
     pub fn confirm(&mut self, note: Note) -> Result<(), (BookFault, Note)>
         ensures answer { result ≡ (confirm_of (state_of self.old.book) note).0 }
         ensures next { state_of self.new.book ≡ (confirm_of (state_of self.old.book) note).1 }
-        ensures follows { ByRules (meant R.Rack.bins R.Rack.depth R.Rack.total Item-as-Load.stream_of Item-as-Load.length_of P.Placer.records P.Placer.rules) (Confirm note) self.old self.new (spent result) }
+        ensures follows { ByRules (meant R.Rack.bins R.Rack.depth R.Rack.total R.Item.Load.stream_of R.Item.Load.length_of P.Placer.records P.Placer.rules) (Confirm note) self.old self.new (spent result) }
     {
         let stream = note.stream();
         let Some(booking) = rowed::held_booking(&self.book, stream) else {
@@ -44,7 +44,7 @@ impl<R: Rack, P: Placer> Port<R, P> {
     pub fn drop_hold(&mut self, note: Note) -> Result<(), (BookFault, Note)>
         ensures answer { result ≡ (drop_of (state_of self.old.book) note).0 }
         ensures next { state_of self.new.book ≡ (drop_of (state_of self.old.book) note).1 }
-        ensures follows { ByRules (meant R.Rack.bins R.Rack.depth R.Rack.total Item-as-Load.stream_of Item-as-Load.length_of P.Placer.records P.Placer.rules) (DropHold note) self.old self.new (spent result) }
+        ensures follows { ByRules (meant R.Rack.bins R.Rack.depth R.Rack.total R.Item.Load.stream_of R.Item.Load.length_of P.Placer.records P.Placer.rules) (DropHold note) self.old self.new (spent result) }
     {
         self.book.drop_hold(note)
     }
@@ -53,7 +53,7 @@ impl<R: Rack, P: Placer> Port<R, P> {
     pub fn release(&mut self, stream: u8) -> Result<u64, BookFault>
         ensures answer { result ≡ (release_of (state_of self.old.book) stream).0 }
         ensures next { state_of self.new.book ≡ (release_of (state_of self.old.book) stream).1 }
-        ensures follows { ByRules (meant R.Rack.bins R.Rack.depth R.Rack.total Item-as-Load.stream_of Item-as-Load.length_of P.Placer.records P.Placer.rules) (Release stream) self.old self.new (released result) }
+        ensures follows { ByRules (meant R.Rack.bins R.Rack.depth R.Rack.total R.Item.Load.stream_of R.Item.Load.length_of P.Placer.records P.Placer.rules) (Release stream) self.old self.new (released result) }
     {
         self.book.release(stream)
     }

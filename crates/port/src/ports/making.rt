@@ -18,7 +18,7 @@ impl<R: Rack, P: Placer> Port<R, P> {
         ensures book { state_of result.book ≡ new_book (numbers_of plan.settings) }
         ensures rack { result.rack ≡ rack }
         ensures placer { result.placer ≡ placer }
-        ensures stands { has_room (room_of (numbers_of plan.settings)) (R.Rack.bins rack) (R.Rack.depth rack) (R.Rack.total rack) ≡ true → Stands (loads_by Item-as-Load.stream_of Item-as-Load.length_of) P.Placer.rules (numbers_of plan.settings) (P.Placer.records placer) [] (parts_of (meant R.Rack.bins R.Rack.depth R.Rack.total Item-as-Load.stream_of Item-as-Load.length_of P.Placer.records P.Placer.rules) result) }
+        ensures stands { has_room (room_of (numbers_of plan.settings)) (R.Rack.bins rack) (R.Rack.depth rack) (R.Rack.total rack) ≡ true → Stands (loads_by R.Item.Load.stream_of R.Item.Load.length_of) P.Placer.rules (numbers_of plan.settings) (P.Placer.records placer) [] (parts_of (meant R.Rack.bins R.Rack.depth R.Rack.total R.Item.Load.stream_of R.Item.Load.length_of P.Placer.records P.Placer.rules) result) }
     {
         Port {
             settings: plan.settings,

@@ -24,7 +24,7 @@ const SHORTEST_ON_WIRE: u64 = 84;
 impl<R: Rack, P: Placer> Port<R, P> {
     // The wire is taken, or a current bin holds a load.
     fn is_busy(&self) -> bool
-        ensures { result ≡ is_busy (loads_by Item-as-Load.stream_of Item-as-Load.length_of) (numbers_of self.now.settings) (state_of self.now.book).clock (bin_of (R.Rack.bins self.now.rack)) self.now.wire }
+        ensures { result ≡ is_busy (loads_by R.Item.Load.stream_of R.Item.Load.length_of) (numbers_of self.now.settings) (state_of self.now.book).clock (bin_of (R.Rack.bins self.now.rack)) self.now.wire }
     {
         let clock = self.book.clock();
         if clock < self.wire {
@@ -38,7 +38,7 @@ impl<R: Rack, P: Placer> Port<R, P> {
 
     // Occupies the wire from the clock on, for a frame of that length that carries nothing.
     pub fn filler(&mut self, length: u16) -> Result<(), PortFault>
-        ensures follows { ByRules (meant R.Rack.bins R.Rack.depth R.Rack.total Item-as-Load.stream_of Item-as-Load.length_of P.Placer.records P.Placer.rules) (Filler length) self.old self.new (filled result) }
+        ensures follows { ByRules (meant R.Rack.bins R.Rack.depth R.Rack.total R.Item.Load.stream_of R.Item.Load.length_of P.Placer.records P.Placer.rules) (Filler length) self.old self.new (filled result) }
         ensures book { state_of self.new.book ≡ state_of self.old.book }
     {
         if !numbers::is_length(length, LONGEST) {
@@ -53,14 +53,14 @@ impl<R: Rack, P: Placer> Port<R, P> {
 
     // The clock would go back, or past its last tick.
     fn is_out_of_time(&self, until: u64) -> bool
-        ensures { result ≡ bad_until (loads_by Item-as-Load.stream_of Item-as-Load.length_of) P.Placer.rules (module_of (meant R.Rack.bins R.Rack.depth R.Rack.total Item-as-Load.stream_of Item-as-Load.length_of P.Placer.records P.Placer.rules) self.now) until }
+        ensures { result ≡ bad_until (loads_by R.Item.Load.stream_of R.Item.Load.length_of) P.Placer.rules (module_of (meant R.Rack.bins R.Rack.depth R.Rack.total R.Item.Load.stream_of R.Item.Load.length_of P.Placer.records P.Placer.rules) self.now) until }
     {
         until < self.book.clock() || until > LAST_TICK
     }
 
     // A list of so many places is shorter than the most departures that can come: one each 84 ticks.
     fn is_short(&self, until: u64, places: usize) -> bool
-        ensures { result ≡ short_list (loads_by Item-as-Load.stream_of Item-as-Load.length_of) P.Placer.rules (module_of (meant R.Rack.bins R.Rack.depth R.Rack.total Item-as-Load.stream_of Item-as-Load.length_of P.Placer.records P.Placer.rules) self.now) until places }
+        ensures { result ≡ short_list (loads_by R.Item.Load.stream_of R.Item.Load.length_of) P.Placer.rules (module_of (meant R.Rack.bins R.Rack.depth R.Rack.total R.Item.Load.stream_of R.Item.Load.length_of P.Placer.records P.Placer.rules) self.now) until places }
     {
         (places as u64) < until.saturating_sub(self.book.clock()) / SHORTEST_ON_WIRE + 1
     }

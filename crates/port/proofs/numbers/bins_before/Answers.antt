@@ -13,7 +13,7 @@ pub loop-faster-preserved : goal.loop-faster-preserved
 loop-faster-preserved c =
     let s = numbers_of c.args.settings.now in
     let f = c.loop-faster.faster in
-    let bins : c.class-of.result.bins ≡ bins_of s f = ap (λ (k : Class). k.bins) c.class-of.ensures in
+    let bins : c.class_of.result.bins ≡ bins_of s f = ap (λ (k : Class). k.bins) c.class_of.ensures in
     (omega (arith, before_more s f), omega arith)
 
 pub returns : goal.returns

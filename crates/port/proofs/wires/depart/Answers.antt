@@ -3,9 +3,9 @@ use Rattle.port.proofs.wires.depart.Goals as goal
 
 pub returns : goal.returns
 returns g c =
-    let e = c.in-ok-load.ensures in
+    let e = c.in_ok-load.ensures in
     record {
-      departs = took _ _ _ _ _ c.in-ok-turn.turn _ _ c.in-ok-turn.ensures e.taken c.stream.ensures;
+      departs = took _ _ _ _ _ c.in_ok-turn.turn _ _ c.in_ok-turn.ensures e.taken c.stream.ensures;
       count = e.count;
       depth = e.depth;
       total = e.total;

@@ -9,16 +9,16 @@ use Rattle.port.proofs.wires.first_waiting.Goals as goal
 pub loop-class-init : goal.loop-class-init
 loop-class-init g c = lowest_start _
 
-pub returns-then-loads-in-gt0 : goal.returns-then-loads-in-gt0
-returns-then-loads-in-gt0 g c =
-    let there : c.loop-class.class < class_count (numbers_of c.args.settings.now) = omega (arith, c.class-count-class-end.ensures) in
-    let some : 0 < length (bin_of (g.R.Rack.bins c.args.rack.now) c.turn-at-turn.result.bin) = omega (arith, c.loads-in.ensures) in
-    first-at _ _ _ _ _ c.loop-class.class (c.turn-at-turn.ensures there) there c.loop-class.invariant some
+pub returns-then-loads_in-gt0 : goal.returns-then-loads_in-gt0
+returns-then-loads_in-gt0 g c =
+    let there : c.loop-class.class < class_count (numbers_of c.args.settings.now) = omega (arith, c.class_count-class-end.ensures) in
+    let some : 0 < length (bin_of (g.R.Rack.bins c.args.rack.now) c.turn_at-turn.result.bin) = omega (arith, c.loads_in.ensures) in
+    first-at _ _ _ _ _ c.loop-class.class (c.turn_at-turn.ensures there) there c.loop-class.invariant some
 
 pub loop-class-preserved : goal.loop-class-preserved
 loop-class-preserved g c =
     let bs = g.R.Rack.bins c.args.rack.now in
-    let there : c.loop-class.class < class_count (numbers_of c.args.settings.now) = omega (arith, c.class-count-class-end.ensures) in
-    let bin = ap (λ (t : Turn). t.bin) (c.turn-at-turn.ensures there) in
-    let empty : length (bin_of bs c.turn-at-turn.result.bin) ≡ 0 = omega (arith, c.loads-in.ensures) in
+    let there : c.loop-class.class < class_count (numbers_of c.args.settings.now) = omega (arith, c.class_count-class-end.ensures) in
+    let bin = ap (λ (t : Turn). t.bin) (c.turn_at-turn.ensures there) in
+    let empty : length (bin_of bs c.turn_at-turn.result.bin) ≡ 0 = omega (arith, c.loads_in.ensures) in
     lowest-more _ c.loop-class.class c.loop-class.invariant (subst (λ (b : ℕ). length (bin_of bs b) ≡ 0) bin empty)

@@ -7,4 +7,4 @@ use Rattle.port.proofs.wires.first_waiting.Given as goal
 
 abbrev pub invariant-loop-class : goal.invariant-loop-class
 invariant-loop-class g l =
-    lowest l.class (current_bin (loads_by g.Item.Load.stream_of g.Item.Load.length_of) (numbers_of l.settings) l.tick (bin_of (g.R.Rack.bins l.rack))) ≡ none
+    lowest l.class (current_bin (loads_by g.R.Item.Load.stream_of g.R.Item.Load.length_of) (numbers_of l.settings) l.tick (bin_of (g.R.Rack.bins l.rack))) ≡ none

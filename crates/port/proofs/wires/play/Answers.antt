@@ -28,8 +28,8 @@ loop-tick-preserved-in-None g c =
     let same = h.departs.1 in
     let quiet : next_out loads s c.loop-tick.tick (bin_of (g.R.Rack.bins c.depart.new.rack)) ≡ none =
     ap (λ (bs : List (List _)). next_out loads s c.loop-tick.tick (bin_of bs)) same ∙ h.departs.0 in
-    let idle = c.quiet-until-tick.ensures in
-    let on : c.args.from.clock ≤ c.quiet-until-tick.result = omega (arith, idle.onward, inv.3) in (
+    let idle = c.quiet_until-tick.ensures in
+    let on : c.args.from.clock ≤ c.quiet_until-tick.result = omega (arith, idle.onward, inv.3) in (
       λ long.
           let so = subst (λ (bs : List (List _)). Goes loads s c.args.until c.args.from.clock c.args.from.free (g.R.Rack.bins c.args.rack.now) c.loop-tick.tick c.loop-tick.free bs (take c.loop-tick.count c.loop-tick.list)) (sym same) (inv.0 long) in
           goes-quiet loads s (settings-legal c.args.settings.now) _ _ _ _ _ _ _ _ so _ c.if-tick-free.false quiet idle,
@@ -42,8 +42,8 @@ loop-tick-preserved-in-None g c =
       h.total ∙ inv.7,
     )
 
-pub offset-bounds-list-count : goal.offset-bounds-list-count
-offset-bounds-list-count g c =
+pub offset_bounds-list-count : goal.offset_bounds-list-count
+offset_bounds-list-count g c =
     let k : c.loop-tick.count < length c.args.list.now = omega (arith, c.if-count-list.true, c.loop-tick.auto.list) in
     search rules
 
@@ -56,11 +56,11 @@ loop-tick-preserved g c =
     let d = c.in-Some.departure in
     let room = c.if-count-list.true in
     let start : d.start ≡ c.loop-tick.tick = ap (λ (e : Departure _). e.start) h.departs.is in
-    let wire = c.wire-after-free.ensures ∙ ap (λ (t : ℕ). t + (g.R.Item.Load.length_of d.load + 20)) start in
+    let wire = c.wire_after-free.ensures ∙ ap (λ (t : ℕ). t + (g.R.Item.Load.length_of d.load + 20)) start in
     let written = take_more_set c.loop-tick.list c.loop-tick.count d room in
     let longer = length-set c.loop-tick.list c.loop-tick.count d in (
       λ long.
-          subst (λ (ds : List (Departure _)). Goes loads s c.args.until c.args.from.clock c.args.from.free (g.R.Rack.bins c.args.rack.now) c.loop-tick.tick c.wire-after-free.result (g.R.Rack.bins c.depart.new.rack) ds) (sym written)
+          subst (λ (ds : List (Departure _)). Goes loads s c.args.until c.args.from.clock c.args.from.free (g.R.Rack.bins c.args.rack.now) c.loop-tick.tick c.wire_after-free.result (g.R.Rack.bins c.depart.new.rack) ds) (sym written)
           (goes-send loads s (settings-legal c.args.settings.now) _ _ _ _ _ _ _ _ (inv.0 long) d _ h.departs inv.3 c.loop-tick-test.true c.if-tick-free.false _ wire),
       one_written c.loop-tick.list c.args.list.now c.loop-tick.count d room inv.1,
       omega arith,

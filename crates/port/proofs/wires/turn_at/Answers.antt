@@ -9,7 +9,7 @@ pub returns : goal.returns
 returns c there =
     let s = numbers_of c.args.settings.now in
     let k = c.args.class in
-    let cycle = c.cycle-at-cycle.ensures in
+    let cycle = c.cycle_at-cycle.ensures in
     let some : 0 < bins_of s k = omega (arith, (settings-legal c.args.settings.now).two_bins k there) in
-    let bin = c.bin-of-bin.ensures some ∙ ap (bin_of s k) cycle in
+    let bin = c.bin_of-bin.ensures some ∙ ap (bin_of s k) cycle in
     cc

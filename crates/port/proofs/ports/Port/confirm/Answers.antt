@@ -5,28 +5,28 @@ use Rattle.port.specs.Rowed.{held_booking}
 use Rattle.port.proofs.Confirms.{confirm-unheld, confirm-refused, confirm-taken}
 use Rattle.port.proofs.ports.Port.confirm.Goals as goal
 
-pub returns-in-default : goal.returns-in-default
-returns-in-default g c =
+pub returns-in_default : goal.returns-in_default
+returns-in_default g c =
     let e = c.confirm.ensures in
     record {
       answer = e.answer;
       next = e.next;
       follows = confirm-unheld _ _ _ c.args.note _ _ e.answer e.next
-          (c.in-default.ensures ∙ ap (held_booking (state_of c.args.self.now.book)) c.stream-stream.ensures);
+          (c.in_default.ensures ∙ ap (held_booking (state_of c.args.self.now.book)) c.stream-stream.ensures);
     }
 
-pub returns-in-err-confirm : goal.returns-in-err-confirm
-returns-in-err-confirm g c =
-    let p = err_from_is_err_and c.from-residual.result c.from-residual.ensures.1 in
-    let e = c.in-err-confirm.ensures in
+pub returns-in_err-confirm : goal.returns-in_err-confirm
+returns-in_err-confirm g c =
+    let p = err_from_is_err_and c.from_residual.result c.from_residual.ensures.1 in
+    let e = c.in_err-confirm.ensures in
     rw (p.1, p.2) (record { answer = e.answer; next = e.next; follows = confirm-refused _ _ _ c.args.note _ _ e.answer e.next _ refl })
 
 pub returns : goal.returns
 returns g c =
-    let e = c.in-ok-confirm.ensures in
+    let e = c.in_ok-confirm.ensures in
     record {
       answer = e.answer;
       next = e.next;
-      follows = confirm-taken _ _ _ c.args.note _ _ e.answer e.next _ _ c.in-Some.booking c.stream-stream.result c.terms-of-terms.result
-          c.stream-stream.ensures c.terms-of-terms.ensures refl c.in-Some.ensures c.renew.ensures c.note.ensures;
+      follows = confirm-taken _ _ _ c.args.note _ _ e.answer e.next _ _ c.in-Some.booking c.stream-stream.result c.terms_of-terms.result
+          c.stream-stream.ensures c.terms_of-terms.ensures refl c.in-Some.ensures c.renew.ensures c.note.ensures;
     }
