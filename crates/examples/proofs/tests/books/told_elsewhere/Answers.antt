@@ -9,5 +9,5 @@ pub unreachable-requires : goal.unreachable-requires
 unreachable-requires c =
     let same = confirm-hands-back (state_of c.args.other.now) c.in_ok-note.note c.in-Err.note c.in-Err.fault (sym c.in-Err.ensures.answer) in
     let still = subst (λ (n : Note). held_by (state_of c.hold.new.self) n ≡ true) (sym same) c.in_ok-note.ensures.spendable in
-    good-dropped (state_of c.hold.new.self) c.in-Err.note c.in-Err-drop-hold.field-0-1 c.in-Err-drop-hold.field-0-0 still
-    (sym c.in-Err-drop-hold.ensures.answer)
+    good-dropped (state_of c.hold.new.self) c.in-Err.note c.in-Err-drop_hold.field-0-1 c.in-Err-drop_hold.field-0-0 still
+    (sym c.in-Err-drop_hold.ensures.answer)
