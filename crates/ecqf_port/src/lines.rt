@@ -21,13 +21,13 @@ fn without_break(line: &[u8]) -> &[u8] {
 }
 
 impl Lines {
-    pub(crate) fn new(heap: Global, input: Stdin) -> Lines {
-        Lines {
-            input: BufReader::new(input),
+    pub(crate) fn new(heap: Global, input: Stdin) -> io::Result<Lines> {
+        Ok(Lines {
+            input: BufReader::new(heap, input)?,
             line: Vec::new(heap),
             read: Ok(()),
             understood: true,
-        }
+        })
     }
 
     // Reads the next line, and answers whether there is one.

@@ -20,12 +20,14 @@ mod slots;
 mod words;
 
 fn main(rt: HostRuntime) -> io::Result<()> {
+    let lines = Lines::new(rt.alloc(), rt.stdin())?;
+    let page = Page::new(rt.alloc(), rt.stdout())?;
     let bench = Bench::new(rt.alloc())?;
     let mut session = Session {
         heap: rt.alloc(),
         bench,
-        lines: Lines::new(rt.alloc(), rt.stdin()),
-        page: Page::new(rt.stdout()),
+        lines,
+        page,
     };
     serving::run(&mut session);
     let Session {

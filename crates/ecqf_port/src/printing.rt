@@ -11,6 +11,7 @@ use port::ports::Port;
 use racks::faults::RackFault;
 use schedule::departures::Departure;
 use schedule::faults::{Layer, PortFault};
+use std::alloc::Global;
 use std::io;
 use std::io::{BufWriter, Stdout, Write};
 
@@ -79,11 +80,11 @@ pub(crate) struct Page {
 }
 
 impl Page {
-    pub(crate) fn new(out: Stdout) -> Page {
-        Page {
-            out: BufWriter::new(out),
+    pub(crate) fn new(heap: Global, out: Stdout) -> io::Result<Page> {
+        Ok(Page {
+            out: BufWriter::new(heap, out)?,
             written: Ok(()),
-        }
+        })
     }
 
     pub(crate) fn has_failed(&self) -> bool {

@@ -44,4 +44,4 @@ returns-then-is-10 c = (miss _ _ _ _ c.if-is.ensures (miss _ _ _ _ c.if-is-2.ens
 
 pub returns : goal.returns
 unfolding name_in
-returns c = (miss _ _ _ _ c.if-is.ensures (miss _ _ _ _ c.if-is-2.ensures (miss _ _ _ _ c.if-is-3.ensures (miss _ _ _ _ c.if-is-4.ensures (miss _ _ _ _ c.if-is-5.ensures (miss _ _ _ _ c.if-is-6.ensures (miss _ _ _ _ c.if-is-7.ensures (miss _ _ _ _ c.if-is-8.ensures (miss _ _ _ _ c.if-is-9.ensures (miss _ _ _ _ c.if-is-10.ensures c.port-name-of.ensures))))))))))
+returns c = (miss _ _ _ _ c.if-is.ensures (miss _ _ _ _ c.if-is-2.ensures (miss _ _ _ _ c.if-is-3.ensures (miss _ _ _ _ c.if-is-4.ensures (miss _ _ _ _ c.if-is-5.ensures (miss _ _ _ _ c.if-is-6.ensures (miss _ _ _ _ c.if-is-7.ensures (miss _ _ _ _ c.if-is-8.ensures (miss _ _ _ _ c.if-is-9.ensures (miss _ _ _ _ c.if-is-10.ensures c.port_name_of.ensures))))))))))

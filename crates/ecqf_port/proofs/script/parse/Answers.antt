@@ -1,15 +1,15 @@
 use Rattle.ecqf_port.proofs.Reading.{silent, spoken}
 use Rattle.ecqf_port.proofs.script.parse.Goals as goal
 
-pub returns-then-says-nothing : goal.returns-then-says-nothing
-returns-then-says-nothing c = silent _ _ _ c.of-words.ensures c.next-first.ensures.word c.if-says-nothing.ensures
+pub returns-then-says_nothing : goal.returns-then-says_nothing
+returns-then-says_nothing c = silent _ _ _ c.of-words.ensures c.next-first.ensures.word c.if-says_nothing.ensures
 
 pub returns-in-Some : goal.returns-in-Some
 returns-in-Some c =
-    spoken _ _ _ _ _ c.of-words.ensures c.next-first.ensures.word c.next-first.ensures.rest c.if-says-nothing.ensures
+    spoken _ _ _ _ _ c.of-words.ensures c.next-first.ensures.word c.next-first.ensures.rest c.if-says_nothing.ensures
     c.in-Some.ensures
 
 pub returns-in-None : goal.returns-in-None
 returns-in-None c =
-    spoken _ _ _ _ _ c.of-words.ensures c.next-first.ensures.word c.next-first.ensures.rest c.if-says-nothing.ensures
+    spoken _ _ _ _ _ c.of-words.ensures c.next-first.ensures.word c.next-first.ensures.rest c.if-says_nothing.ensures
     c.in-None.ensures

@@ -3,13 +3,13 @@ use Rattle.ecqf_port.specs.Script.{one_in}
 use Rattle.ecqf_port.proofs.Reading.{stopped, went_on}
 use Rattle.ecqf_port.proofs.script.read_advance.Goals as goal
 
-pub returns-in-err-until : goal.returns-in-err-until
+pub returns-in_err-until : goal.returns-in_err-until
 unfolding one_in
-returns-in-err-until c =
-    c.from-residual.ensures ∙ stopped _ _ _ c.in-err-until.ensures.value
+returns-in_err-until c =
+    c.from_residual.ensures ∙ stopped _ _ _ c.in_err-until.ensures.value
 
 pub returns : goal.returns
 unfolding one_in
 returns c =
     c.end.ensures
-    ∙ went_on _ _ _ _ _ c.in-ok-until.ensures.value c.in-ok-until.ensures.rest
+    ∙ went_on _ _ _ _ _ c.in_ok-until.ensures.value c.in_ok-until.ensures.rest

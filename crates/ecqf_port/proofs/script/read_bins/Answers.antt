@@ -3,28 +3,28 @@ use Rattle.ecqf_port.specs.Script.{bins_in}
 use Rattle.ecqf_port.proofs.Reading.{stopped, went_on}
 use Rattle.ecqf_port.proofs.script.read_bins.Goals as goal
 
-pub returns-in-err-delay : goal.returns-in-err-delay
+pub returns-in_err-delay : goal.returns-in_err-delay
 unfolding bins_in
-returns-in-err-delay c =
-    c.from-residual.ensures ∙ stopped _ _ _ c.in-err-delay.ensures.value
+returns-in_err-delay c =
+    c.from_residual.ensures ∙ stopped _ _ _ c.in_err-delay.ensures.value
 
-pub returns-in-err-cycle : goal.returns-in-err-cycle
+pub returns-in_err-cycle : goal.returns-in_err-cycle
 unfolding bins_in
-returns-in-err-cycle c =
-    c.from-residual-in-err-cycle.ensures ∙ stopped _ _ _ c.in-err-cycle.ensures.value
-    ∙ went_on _ _ _ _ _ c.in-ok-delay.ensures.value c.in-ok-delay.ensures.rest
+returns-in_err-cycle c =
+    c.from_residual-in_err-cycle.ensures ∙ stopped _ _ _ c.in_err-cycle.ensures.value
+    ∙ went_on _ _ _ _ _ c.in_ok-delay.ensures.value c.in_ok-delay.ensures.rest
 
-pub returns-in-err-phase : goal.returns-in-err-phase
+pub returns-in_err-phase : goal.returns-in_err-phase
 unfolding bins_in
-returns-in-err-phase c =
-    c.from-residual-in-err-phase.ensures ∙ stopped _ _ _ c.in-err-phase.ensures.value
-    ∙ went_on _ _ _ _ _ c.in-ok-cycle.ensures.value c.in-ok-cycle.ensures.rest
-    ∙ went_on _ _ _ _ _ c.in-ok-delay.ensures.value c.in-ok-delay.ensures.rest
+returns-in_err-phase c =
+    c.from_residual-in_err-phase.ensures ∙ stopped _ _ _ c.in_err-phase.ensures.value
+    ∙ went_on _ _ _ _ _ c.in_ok-cycle.ensures.value c.in_ok-cycle.ensures.rest
+    ∙ went_on _ _ _ _ _ c.in_ok-delay.ensures.value c.in_ok-delay.ensures.rest
 
 pub returns : goal.returns
 unfolding bins_in
 returns c =
     c.end.ensures
-    ∙ went_on _ _ _ _ _ c.in-ok-phase.ensures.value c.in-ok-phase.ensures.rest
-    ∙ went_on _ _ _ _ _ c.in-ok-cycle.ensures.value c.in-ok-cycle.ensures.rest
-    ∙ went_on _ _ _ _ _ c.in-ok-delay.ensures.value c.in-ok-delay.ensures.rest
+    ∙ went_on _ _ _ _ _ c.in_ok-phase.ensures.value c.in_ok-phase.ensures.rest
+    ∙ went_on _ _ _ _ _ c.in_ok-cycle.ensures.value c.in_ok-cycle.ensures.rest
+    ∙ went_on _ _ _ _ _ c.in_ok-delay.ensures.value c.in_ok-delay.ensures.rest

@@ -3,13 +3,13 @@ use Rattle.ecqf_port.specs.Script.{one_in}
 use Rattle.ecqf_port.proofs.Reading.{stopped, went_on}
 use Rattle.ecqf_port.proofs.script.read_filler.Goals as goal
 
-pub returns-in-err-length : goal.returns-in-err-length
+pub returns-in_err-length : goal.returns-in_err-length
 unfolding one_in
-returns-in-err-length c =
-    c.from-residual.ensures ∙ stopped _ _ _ c.in-err-length.ensures.value
+returns-in_err-length c =
+    c.from_residual.ensures ∙ stopped _ _ _ c.in_err-length.ensures.value
 
 pub returns : goal.returns
 unfolding one_in
 returns c =
     c.end.ensures
-    ∙ went_on _ _ _ _ _ c.in-ok-length.ensures.value c.in-ok-length.ensures.rest
+    ∙ went_on _ _ _ _ _ c.in_ok-length.ensures.value c.in_ok-length.ensures.rest

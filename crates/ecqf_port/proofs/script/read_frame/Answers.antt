@@ -4,48 +4,48 @@ use Rattle.ecqf_port.specs.declared.script.Command.TheVariants.{Frame}
 use Rattle.ecqf_port.proofs.Reading.{stopped, went_on}
 use Rattle.ecqf_port.proofs.script.read_frame.Goals as goal
 
-pub returns-in-err-input : goal.returns-in-err-input
+pub returns-in_err-input : goal.returns-in_err-input
 unfolding frame_in
-returns-in-err-input c =
-    c.from-residual.ensures ∙ stopped _ _ _ c.in-err-input.ensures.value
+returns-in_err-input c =
+    c.from_residual.ensures ∙ stopped _ _ _ c.in_err-input.ensures.value
 
-pub returns-in-err-stamp : goal.returns-in-err-stamp
+pub returns-in_err-stamp : goal.returns-in_err-stamp
 unfolding frame_in
-returns-in-err-stamp c =
-    c.from-residual-in-err-stamp.ensures ∙ stopped _ _ _ c.in-err-stamp.ensures.value
-    ∙ went_on _ _ _ _ _ c.in-ok-input.ensures.value c.in-ok-input.ensures.rest
+returns-in_err-stamp c =
+    c.from_residual-in_err-stamp.ensures ∙ stopped _ _ _ c.in_err-stamp.ensures.value
+    ∙ went_on _ _ _ _ _ c.in_ok-input.ensures.value c.in_ok-input.ensures.rest
 
-pub returns-in-err-stream : goal.returns-in-err-stream
+pub returns-in_err-stream : goal.returns-in_err-stream
 unfolding frame_in
-returns-in-err-stream c =
-    c.from-residual-in-err-stream.ensures ∙ stopped _ _ _ c.in-err-stream.ensures.value
-    ∙ went_on _ _ _ _ _ c.in-ok-stamp.ensures.value c.in-ok-stamp.ensures.rest
-    ∙ went_on _ _ _ _ _ c.in-ok-input.ensures.value c.in-ok-input.ensures.rest
+returns-in_err-stream c =
+    c.from_residual-in_err-stream.ensures ∙ stopped _ _ _ c.in_err-stream.ensures.value
+    ∙ went_on _ _ _ _ _ c.in_ok-stamp.ensures.value c.in_ok-stamp.ensures.rest
+    ∙ went_on _ _ _ _ _ c.in_ok-input.ensures.value c.in_ok-input.ensures.rest
 
-pub returns-in-err-length : goal.returns-in-err-length
+pub returns-in_err-length : goal.returns-in_err-length
 unfolding frame_in
-returns-in-err-length c =
-    c.from-residual-in-err-length.ensures ∙ stopped _ _ _ c.in-err-length.ensures.value
-    ∙ went_on _ _ _ _ _ c.in-ok-stream.ensures.value c.in-ok-stream.ensures.rest
-    ∙ went_on _ _ _ _ _ c.in-ok-stamp.ensures.value c.in-ok-stamp.ensures.rest
-    ∙ went_on _ _ _ _ _ c.in-ok-input.ensures.value c.in-ok-input.ensures.rest
+returns-in_err-length c =
+    c.from_residual-in_err-length.ensures ∙ stopped _ _ _ c.in_err-length.ensures.value
+    ∙ went_on _ _ _ _ _ c.in_ok-stream.ensures.value c.in_ok-stream.ensures.rest
+    ∙ went_on _ _ _ _ _ c.in_ok-stamp.ensures.value c.in_ok-stamp.ensures.rest
+    ∙ went_on _ _ _ _ _ c.in_ok-input.ensures.value c.in_ok-input.ensures.rest
 
-pub returns-in-err-buffer : goal.returns-in-err-buffer
+pub returns-in_err-buffer : goal.returns-in_err-buffer
 unfolding frame_in
-returns-in-err-buffer c =
-    c.from-residual-in-err-buffer.ensures ∙ stopped _ _ _ c.in-err-buffer.ensures.value
-    ∙ went_on _ _ _ _ _ c.in-ok-length.ensures.value c.in-ok-length.ensures.rest
-    ∙ went_on _ _ _ _ _ c.in-ok-stream.ensures.value c.in-ok-stream.ensures.rest
-    ∙ went_on _ _ _ _ _ c.in-ok-stamp.ensures.value c.in-ok-stamp.ensures.rest
-    ∙ went_on _ _ _ _ _ c.in-ok-input.ensures.value c.in-ok-input.ensures.rest
+returns-in_err-buffer c =
+    c.from_residual-in_err-buffer.ensures ∙ stopped _ _ _ c.in_err-buffer.ensures.value
+    ∙ went_on _ _ _ _ _ c.in_ok-length.ensures.value c.in_ok-length.ensures.rest
+    ∙ went_on _ _ _ _ _ c.in_ok-stream.ensures.value c.in_ok-stream.ensures.rest
+    ∙ went_on _ _ _ _ _ c.in_ok-stamp.ensures.value c.in_ok-stamp.ensures.rest
+    ∙ went_on _ _ _ _ _ c.in_ok-input.ensures.value c.in_ok-input.ensures.rest
 
 pub returns : goal.returns
 unfolding frame_in
 returns c =
     c.end.ensures
-    ∙ ap (λ m. ended c.u32.new.self.rest.now (Frame c.in-ok-input.input c.in-ok-stamp.stamp m)) c.new-mark.ensures
-    ∙ went_on _ _ _ _ _ c.in-ok-buffer.ensures.value c.in-ok-buffer.ensures.rest
-    ∙ went_on _ _ _ _ _ c.in-ok-length.ensures.value c.in-ok-length.ensures.rest
-    ∙ went_on _ _ _ _ _ c.in-ok-stream.ensures.value c.in-ok-stream.ensures.rest
-    ∙ went_on _ _ _ _ _ c.in-ok-stamp.ensures.value c.in-ok-stamp.ensures.rest
-    ∙ went_on _ _ _ _ _ c.in-ok-input.ensures.value c.in-ok-input.ensures.rest
+    ∙ ap (λ m. ended c.u32.new.self.rest.now (Frame c.in_ok-input.input c.in_ok-stamp.stamp m)) c.new-mark.ensures
+    ∙ went_on _ _ _ _ _ c.in_ok-buffer.ensures.value c.in_ok-buffer.ensures.rest
+    ∙ went_on _ _ _ _ _ c.in_ok-length.ensures.value c.in_ok-length.ensures.rest
+    ∙ went_on _ _ _ _ _ c.in_ok-stream.ensures.value c.in_ok-stream.ensures.rest
+    ∙ went_on _ _ _ _ _ c.in_ok-stamp.ensures.value c.in_ok-stamp.ensures.rest
+    ∙ went_on _ _ _ _ _ c.in_ok-input.ensures.value c.in_ok-input.ensures.rest

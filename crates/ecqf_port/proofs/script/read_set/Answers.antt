@@ -3,20 +3,20 @@ use Rattle.ecqf_port.specs.Script.{set_in}
 use Rattle.ecqf_port.proofs.Reading.{stopped, went_on}
 use Rattle.ecqf_port.proofs.script.read_set.Goals as goal
 
-pub returns-in-err-delay : goal.returns-in-err-delay
+pub returns-in_err-delay : goal.returns-in_err-delay
 unfolding set_in
-returns-in-err-delay c =
-    c.from-residual.ensures ∙ stopped _ _ _ c.in-err-delay.ensures.value
+returns-in_err-delay c =
+    c.from_residual.ensures ∙ stopped _ _ _ c.in_err-delay.ensures.value
 
-pub returns-in-err-dead-time : goal.returns-in-err-dead-time
+pub returns-in_err-dead_time : goal.returns-in_err-dead_time
 unfolding set_in
-returns-in-err-dead-time c =
-    c.from-residual-in-err-dead-time.ensures ∙ stopped _ _ _ c.in-err-dead-time.ensures.value
-    ∙ went_on _ _ _ _ _ c.in-ok-delay.ensures.value c.in-ok-delay.ensures.rest
+returns-in_err-dead_time c =
+    c.from_residual-in_err-dead_time.ensures ∙ stopped _ _ _ c.in_err-dead_time.ensures.value
+    ∙ went_on _ _ _ _ _ c.in_ok-delay.ensures.value c.in_ok-delay.ensures.rest
 
 pub returns : goal.returns
 unfolding set_in
 returns c =
     c.end.ensures
-    ∙ went_on _ _ _ _ _ c.in-ok-dead-time.ensures.value c.in-ok-dead-time.ensures.rest
-    ∙ went_on _ _ _ _ _ c.in-ok-delay.ensures.value c.in-ok-delay.ensures.rest
+    ∙ went_on _ _ _ _ _ c.in_ok-dead_time.ensures.value c.in_ok-dead_time.ensures.rest
+    ∙ went_on _ _ _ _ _ c.in_ok-delay.ensures.value c.in_ok-delay.ensures.rest

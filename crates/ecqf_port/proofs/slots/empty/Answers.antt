@@ -6,5 +6,5 @@ pub loop-notes-preserved : goal.loop-notes-preserved
 loop-notes-preserved c = (
   search rules,
   search rules,
-  λ s. ap (λ xs. get_or xs s None) c.push-reserved.ensures.items ∙ push-none (vec_items c.loop-notes.notes) s ∙ c.loop-notes.invariant.2 s,
+  λ s. ap (λ xs. get_or xs s None) c.push_reserved.ensures.items ∙ push-none (vec_items c.loop-notes.notes) s ∙ c.loop-notes.invariant.2 s,
 )

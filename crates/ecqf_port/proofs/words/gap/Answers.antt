@@ -2,8 +2,8 @@ use Rattle.std.proofs.Common.{◌∙◌, rules}
 use Rattle.ecqf_port.proofs.Reading.{gap_more, gap-stop, gap-end}
 use Rattle.ecqf_port.proofs.words.gap.Goals as goal
 
-pub returns-then-not-is-gap : goal.returns-then-not-is-gap
-returns-then-not-is-gap c =
+pub returns-then-not-is_gap : goal.returns-then-not-is_gap
+returns-then-not-is_gap c =
     record { within = search rules; rest = gap-stop c.args.bytes.now c.loop-at.at (search rules) (search rules) ∙ c.loop-at.invariant }
 
 pub loop-at-preserved : goal.loop-at-preserved

@@ -3,8 +3,8 @@ use Rattle.ecqf_port.specs.Numerals.{digits_after}
 use Rattle.ecqf_port.proofs.Reading.{digit-more, digit-stop, digit-end, digits-over, worded}
 use Rattle.ecqf_port.proofs.words.numeral.Goals as goal
 
-pub returns-then-not-is-digit : goal.returns-then-not-is-digit
-returns-then-not-is-digit c =
+pub returns-then-not-is_digit : goal.returns-then-not-is_digit
+returns-then-not-is_digit c =
     record {
       value = digit-stop c.args.most c.loop-byte.value c.args.word.now c.loop-byte.byte-index (search rules) (search rules)
           ∙ c.loop-byte.invariant.0 ∙ worded c.args.most c.args.word.now (search rules);

@@ -2,8 +2,8 @@ use Rattle.std.proofs.Common.{◌∙◌, rules}
 use Rattle.ecqf_port.proofs.Reading.{word_more, word-stop, word_end, from_more, from-stop, from_end}
 use Rattle.ecqf_port.proofs.words.run.Goals as goal
 
-pub returns-then-is-gap : goal.returns-then-is-gap
-returns-then-is-gap c =
+pub returns-then-is_gap : goal.returns-then-is_gap
+returns-then-is_gap c =
     record {
       within = search rules;
       word = word-stop c.args.bytes.now c.loop-at.at (search rules) (search rules) ∙ c.loop-at.invariant.0;

@@ -2,10 +2,10 @@ use Rattle.std.proofs.Common.{rules}
 use Rattle.ecqf_port.specs.Benches.{class_noted}
 use Rattle.ecqf_port.proofs.bench.Bench.add_class.Goals as goal
 
-pub returns-then-len-lt-MOST-CLASSES : goal.returns-then-len-lt-MOST-CLASSES
+pub returns-then-len-lt-MOST_CLASSES : goal.returns-then-len-lt-MOST_CLASSES
 unfolding class_noted
-returns-then-len-lt-MOST-CLASSES c = search rules
+returns-then-len-lt-MOST_CLASSES c = search rules
 
-pub returns-else-len-lt-MOST-CLASSES : goal.returns-else-len-lt-MOST-CLASSES
+pub returns-else-len-lt-MOST_CLASSES : goal.returns-else-len-lt-MOST_CLASSES
 unfolding class_noted
-returns-else-len-lt-MOST-CLASSES c = search rules
+returns-else-len-lt-MOST_CLASSES c = search rules

@@ -8,22 +8,27 @@ use Rattle.ecqf_port.proofs.Pairing.{matching-of, matching-kept, advance-kept, M
 use Rattle.ecqf_port.proofs.Carrying.{done, missing}
 use Rattle.ecqf_port.proofs.bench.Bench.advance.Goals as goal
 
-pub returns-in-default : goal.returns-in-default
+pub returns-in_default : goal.returns-in_default
 unfolding advance_done
-returns-in-default c =
-    let m = missing (bench_of c.args.self.now) _ (option_map state_of c.take.new.self) (ap (option_map state_of) (sym c.in-default.ensures.value))
+returns-in_default c =
+    let m = missing (bench_of c.args.self.now) _ (option_map state_of c.take.new.self) (ap (option_map state_of) (sym c.in_default.ensures.value))
     (ap (option_map state_of) c.take.ensures.after)
     in
     record { answer = m.0; next = m.1 }
 
-pub invariant-of-self-2 : goal.invariant-of-self-2
-invariant-of-self-2 c =
+pub invariant_of-self-2 : goal.invariant_of-self-2
+invariant_of-self-2 c =
     let b = state_of c.in-Some.book in
     let ns = vec_items c.args.self.now.notes in
     let m : Matching b ns = matching-of _ b ns (ap (option_map state_of) (sym c.in-Some.ensures.value)) c.args.self.now.paired in
     let k : Matching (state_of c.advance-advanced.new.self) ns =
     matching-kept b (state_of c.advance-advanced.new.self) ns (λ s. ap (λ x. note_in x s) c.advance-advanced.ensures.next ∙ advance-kept b c.args.until s) m in
-    (search rules, (k, (search rules, (search rules, tt))))
+    record {
+      places = search rules;
+      paired = k;
+      class_room = search rules;
+      input_room = search rules;
+    }
 
 pub returns-in-Ok : goal.returns-in-Ok
 unfolding advance_done

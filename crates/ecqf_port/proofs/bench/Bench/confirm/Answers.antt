@@ -10,23 +10,23 @@ use Rattle.book.specs.Rows.{confirmed}
 use Rattle.ecqf_port.specs.declared.answers.Answer.TheVariants.{Live, NoNote}
 use Rattle.ecqf_port.proofs.Pairing.{Matching, matching-of, matching-all, confirm-spent, spent-matching, confirmed-unheld}
 
-pub returns-in-default : goal.returns-in-default
+pub returns-in_default : goal.returns-in_default
 unfolding confirm_done
-returns-in-default c =
-    let m = missing (bench_of c.args.self.now) _ (option_map state_of c.take.new.self) (ap (option_map state_of) (sym c.in-default.ensures.value))
+returns-in_default c =
+    let m = missing (bench_of c.args.self.now) _ (option_map state_of c.take.new.self) (ap (option_map state_of) (sym c.in_default.ensures.value))
     (ap (option_map state_of) c.take.ensures.after)
     in
     record { answer = m.0; next = m.1 }
 
-pub returns-in-default-take : goal.returns-in-default-take
+pub returns-in_default-take : goal.returns-in_default-take
 unfolding confirm_done
-returns-in-default-take c =
+returns-in_default-take c =
     let b = state_of c.in-Some.book in
     let ns = vec_items c.args.self.now.notes in
     let m : Matching b ns = matching-of _ b ns (ap (option_map state_of) (sym c.in-Some.ensures.value)) c.args.self.now.paired in
     let l : length ns ≡ 128 = omega (arith, c.args.self.now.notes.ok.0, c.args.self.now.places) in
     let a = matching-all b ns c.in-Some.book.full l m c.args.stream in
-    let e : None ≡ note_in b c.args.stream = c.in-default-take.ensures.value ∙ a in
+    let e : None ≡ note_in b c.args.stream = c.in_default-take.ensures.value ∙ a in
     let d = done (bench_of c.args.self.now) b (λ b. spent Live (confirm_of b) b (note_in b c.args.stream)) NoNote b
     (ap (option_map state_of) (sym c.in-Some.ensures.value)) (ap (λ x. (spent Live (confirm_of b) b x).0) e) (ap (λ x. (spent Live (confirm_of b) b x).1) e)
     in
@@ -47,8 +47,8 @@ unreachable-requires c =
     let z : ◌≡◌ {A = ℕ} 0 1 = cc in
     omega arith
 
-pub invariant-of-self-2 : goal.invariant-of-self-2
-invariant-of-self-2 c =
+pub invariant_of-self-2 : goal.invariant_of-self-2
+invariant_of-self-2 c =
     let b = state_of c.in-Some.book in
     let ns = vec_items c.args.self.now.notes in
     let m : Matching b ns = matching-of _ b ns (ap (option_map state_of) (sym c.in-Some.ensures.value)) c.args.self.now.paired in
@@ -60,7 +60,12 @@ invariant-of-self-2 c =
     let k = spent-matching b ns c.args.stream _ n _ c.in-Some.book.full l m (confirmed-unheld (row_of b c.args.stream)) s in
     let j : Matching (state_of c.confirm.new.self) (vec_items c.take-2.new.notes) =
     λ s h. ap (λ x. get_or x s None) c.take-2.ensures.items ∙ k s h ∙ sym (ap (λ x. note_in x s) c.confirm.ensures.next) in
-    (search rules, (j, (search rules, (search rules, tt))))
+    record {
+      places = search rules;
+      paired = j;
+      class_room = search rules;
+      input_room = search rules;
+    }
 
 pub returns : goal.returns
 unfolding confirm_done

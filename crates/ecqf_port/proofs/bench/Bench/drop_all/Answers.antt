@@ -8,9 +8,9 @@ loop-stream-init c = dropping-none (bench_of c.args.self.now) _ (search rules)
 
 pub loop-stream-preserved : goal.loop-stream-preserved
 loop-stream-preserved c =
-    dropping-more (bench_of c.args.self.now) (bench_of c.loop-stream.self) (bench_of c.drop-note.new.self) c.loop-stream.dropped
-    c.loop-stream.stream c.drop-note.result c.is-free.result (search rules) (full-of c.loop-stream.self.book)
-    c.drop-note.ensures.answer c.drop-note.ensures.next c.is-free.ensures c.loop-stream.invariant
+    dropping-more (bench_of c.args.self.now) (bench_of c.loop-stream.self) (bench_of c.drop_note.new.self) c.loop-stream.dropped
+    c.loop-stream.stream c.drop_note.result c.is_free.result (search rules) (full-of c.loop-stream.self.book)
+    c.drop_note.ensures.answer c.drop_note.ensures.next c.is_free.ensures c.loop-stream.invariant
 
 pub returns : goal.returns
 returns c =

@@ -10,23 +10,23 @@ use Rattle.book.specs.Rows.{dropped}
 use Rattle.ecqf_port.specs.declared.answers.Answer.TheVariants.{Free, NoNote}
 use Rattle.ecqf_port.proofs.Pairing.{Matching, matching-of, matching-all, drop-spent, spent-matching, dropped-unheld}
 
-pub returns-in-default : goal.returns-in-default
+pub returns-in_default : goal.returns-in_default
 unfolding drop_done
-returns-in-default c =
-    let m = missing (bench_of c.args.self.now) _ (option_map state_of c.take.new.self) (ap (option_map state_of) (sym c.in-default.ensures.value))
+returns-in_default c =
+    let m = missing (bench_of c.args.self.now) _ (option_map state_of c.take.new.self) (ap (option_map state_of) (sym c.in_default.ensures.value))
     (ap (option_map state_of) c.take.ensures.after)
     in
     record { answer = m.0; next = m.1 }
 
-pub returns-in-default-take : goal.returns-in-default-take
+pub returns-in_default-take : goal.returns-in_default-take
 unfolding drop_done
-returns-in-default-take c =
+returns-in_default-take c =
     let b = state_of c.in-Some.book in
     let ns = vec_items c.args.self.now.notes in
     let m : Matching b ns = matching-of _ b ns (ap (option_map state_of) (sym c.in-Some.ensures.value)) c.args.self.now.paired in
     let l : length ns ≡ 128 = omega (arith, c.args.self.now.notes.ok.0, c.args.self.now.places) in
     let a = matching-all b ns c.in-Some.book.full l m c.args.stream in
-    let e : None ≡ note_in b c.args.stream = c.in-default-take.ensures.value ∙ a in
+    let e : None ≡ note_in b c.args.stream = c.in_default-take.ensures.value ∙ a in
     let d = done (bench_of c.args.self.now) b (λ b. spent Free (drop_of b) b (note_in b c.args.stream)) NoNote b
     (ap (option_map state_of) (sym c.in-Some.ensures.value)) (ap (λ x. (spent Free (drop_of b) b x).0) e) (ap (λ x. (spent Free (drop_of b) b x).1) e)
     in
@@ -47,8 +47,8 @@ unreachable-requires c =
     let z : ◌≡◌ {A = ℕ} 0 1 = cc in
     omega arith
 
-pub invariant-of-self-2 : goal.invariant-of-self-2
-invariant-of-self-2 c =
+pub invariant_of-self-2 : goal.invariant_of-self-2
+invariant_of-self-2 c =
     let b = state_of c.in-Some.book in
     let ns = vec_items c.args.self.now.notes in
     let m : Matching b ns = matching-of _ b ns (ap (option_map state_of) (sym c.in-Some.ensures.value)) c.args.self.now.paired in
@@ -58,9 +58,14 @@ invariant-of-self-2 c =
     let p : note_in b c.args.stream ≡ Some n = sym a ∙ sym c.in-Some-take.ensures.value in
     let s = drop-spent b c.args.stream n c.in-Some.book.full p in
     let k = spent-matching b ns c.args.stream _ n _ c.in-Some.book.full l m (dropped-unheld (row_of b c.args.stream)) s in
-    let j : Matching (state_of c.drop-hold.new.self) (vec_items c.take-2.new.notes) =
-    λ s h. ap (λ x. get_or x s None) c.take-2.ensures.items ∙ k s h ∙ sym (ap (λ x. note_in x s) c.drop-hold.ensures.next) in
-    (search rules, (j, (search rules, (search rules, tt))))
+    let j : Matching (state_of c.drop_hold.new.self) (vec_items c.take-2.new.notes) =
+    λ s h. ap (λ x. get_or x s None) c.take-2.ensures.items ∙ k s h ∙ sym (ap (λ x. note_in x s) c.drop_hold.ensures.next) in
+    record {
+      places = search rules;
+      paired = j;
+      class_room = search rules;
+      input_room = search rules;
+    }
 
 pub returns : goal.returns
 unfolding drop_done
@@ -73,8 +78,8 @@ returns c =
     let n = c.in-Some-take.note in
     let p : note_in b c.args.stream ≡ Some n = sym a ∙ sym c.in-Some-take.ensures.value in
     let s = drop-spent b c.args.stream n c.in-Some.book.full p in
-    let d = done (bench_of c.args.self.now) b (λ b. spent Free (drop_of b) b (note_in b c.args.stream)) Free (state_of c.drop-hold.new.self)
+    let d = done (bench_of c.args.self.now) b (λ b. spent Free (drop_of b) b (note_in b c.args.stream)) Free (state_of c.drop_hold.new.self)
     (ap (option_map state_of) (sym c.in-Some.ensures.value)) (ap (said_of_note Free) (sym s.answer) ∙ ap (λ x. (spent Free (drop_of b) b x).0) (sym p))
-    (c.drop-hold.ensures.next ∙ ap (λ x. (spent Free (drop_of b) b x).1) (sym p))
+    (c.drop_hold.ensures.next ∙ ap (λ x. (spent Free (drop_of b) b x).1) (sym p))
     in
     record { answer = d.0; next = d.1 }

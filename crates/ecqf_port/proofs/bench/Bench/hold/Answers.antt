@@ -10,10 +10,10 @@ use Rattle.ecqf_port.specs.declared.answers.Answer.TheVariants.{Held}
 use Rattle.book.proofs.Notes.{hold-refused-says}
 use Rattle.ecqf_port.proofs.Pairing.{Matching, matching-of, hold-taken, held-matching, hold-place}
 
-pub returns-in-default : goal.returns-in-default
+pub returns-in_default : goal.returns-in_default
 unfolding hold_done
-returns-in-default c =
-    let m = missing (bench_of c.args.self.now) _ (option_map state_of c.take.new.self) (ap (option_map state_of) (sym c.in-default.ensures.value))
+returns-in_default c =
+    let m = missing (bench_of c.args.self.now) _ (option_map state_of c.take.new.self) (ap (option_map state_of) (sym c.in_default.ensures.value))
     (ap (option_map state_of) c.take.ensures.after)
     in
     record { answer = m.0; next = m.1 }
@@ -27,8 +27,8 @@ put-requires c =
     let h = hold-taken b c.args.stream c.args.booking c.in-Ok.note t in
     (search rules, hold-place b ns c.args.stream c.args.booking c.in-Ok.note m t)
 
-pub invariant-of-self-in-Ok : goal.invariant-of-self-in-Ok
-invariant-of-self-in-Ok c =
+pub invariant_of-self-in-Ok : goal.invariant_of-self-in-Ok
+invariant_of-self-in-Ok c =
     let b = state_of c.in-Some.book in
     let ns = vec_items c.args.self.now.notes in
     let m : Matching b ns = matching-of _ b ns (ap (option_map state_of) (sym c.in-Some.ensures.value)) c.args.self.now.paired in
@@ -36,16 +36,26 @@ invariant-of-self-in-Ok c =
     let k = held-matching b ns c.args.stream c.args.booking c.in-Ok.note c.in-Some.book.full l m (sym c.in-Ok.ensures.answer) in
     let j : Matching (state_of c.hold-held.new.self) (vec_items c.put.new.notes) =
     λ s h. ap (λ x. get_or x s None) c.put.ensures ∙ k s h ∙ sym (ap (λ x. note_in x s) c.hold-held.ensures.next) in
-    (search rules, (j, (search rules, (search rules, tt))))
+    record {
+      places = search rules;
+      paired = j;
+      class_room = search rules;
+      input_room = search rules;
+    }
 
-pub invariant-of-self-in-Err· : goal.invariant-of-self-in-Err·
-invariant-of-self-in-Err· c =
+pub invariant_of-self-in-Err-1 : goal.invariant_of-self-in-Err-1
+invariant_of-self-in-Err-1 c =
     let b = state_of c.in-Some.book in
     let ns = vec_items c.args.self.now.notes in
     let m : Matching b ns = matching-of _ b ns (ap (option_map state_of) (sym c.in-Some.ensures.value)) c.args.self.now.paired in
     let e = c.hold-held.ensures.next ∙ hold-refused-says b c.args.stream c.args.booking c.in-Err.fault (sym c.in-Err.ensures.answer) in
     let j : Matching (state_of c.hold-held.new.self) ns = λ s h. m s h ∙ sym (ap (λ x. note_in x s) e) in
-    (search rules, (j, (search rules, (search rules, tt))))
+    record {
+      places = search rules;
+      paired = j;
+      class_room = search rules;
+      input_room = search rules;
+    }
 
 pub returns-in-Ok : goal.returns-in-Ok
 unfolding hold_done

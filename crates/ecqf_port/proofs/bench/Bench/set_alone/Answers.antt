@@ -6,26 +6,31 @@ use Rattle.ecqf_port.proofs.Pairing.{Matching}
 use Rattle.ecqf_port.proofs.Carrying.{new-matching, set-accepted, set-refused}
 use Rattle.ecqf_port.proofs.bench.Bench.set_alone.Goals as goal
 
-pub invariant-of-self-in-Ok : goal.invariant-of-self-in-Ok
-invariant-of-self-in-Ok c =
-    let j : Matching (state_of c.make.result) (vec_items c.drop-all-dropped.new.self.notes) =
-    new-matching (state_of c.make.result) (numbers_of c.in-Ok.settings) (vec_items c.drop-all-dropped.new.self.notes) c.make.ensures.state
-    c.drop-all-dropped.ensures.none in
-    (search rules, (j, (search rules, (search rules, tt))))
+pub invariant_of-self-in-Ok : goal.invariant_of-self-in-Ok
+invariant_of-self-in-Ok c =
+    let j : Matching (state_of c.make.result) (vec_items c.drop_all-dropped.new.self.notes) =
+    new-matching (state_of c.make.result) (numbers_of c.in-Ok.settings) (vec_items c.drop_all-dropped.new.self.notes) c.make.ensures.state
+    c.drop_all-dropped.ensures.none in
+    record {
+      places = search rules;
+      paired = j;
+      class_room = search rules;
+      input_room = search rules;
+    }
 
 pub returns-in-Ok : goal.returns-in-Ok
 returns-in-Ok c =
-    let r = set-accepted (bench_of c.args.self.now) (bench_of c.use-up.new.self) (bench_of c.drop-all-dropped.new.self) c.args.delay
-    c.args.dead-time c.as-slice.result.now c.as-slice-2.result.now c.drop-all-dropped.result (numbers_of c.in-Ok.settings)
-    (state_of c.make.result) c.as-slice.ensures.value c.as-slice-2.ensures.value c.use-up.ensures c.drop-all-dropped.ensures.kept
-    c.in-Ok.ensures.0 c.in-Ok.ensures.1 c.make.ensures.state c.drop-all-dropped.ensures.dropped
+    let r = set-accepted (bench_of c.args.self.now) (bench_of c.use_up.new.self) (bench_of c.drop_all-dropped.new.self) c.args.delay
+    c.args.dead_time c.as_slice.result.now c.as_slice-2.result.now c.drop_all-dropped.result (numbers_of c.in-Ok.settings)
+    (state_of c.make.result) c.as_slice.ensures.value c.as_slice-2.ensures.value c.use_up.ensures c.drop_all-dropped.ensures.kept
+    c.in-Ok.ensures.0 c.in-Ok.ensures.1 c.make.ensures.state c.drop_all-dropped.ensures.dropped
     in
     record { answer = r.0; next = r.1 }
 
 pub returns-in-Err : goal.returns-in-Err
 returns-in-Err c =
-    let r = set-refused (bench_of c.args.self.now) (bench_of c.use-up.new.self) c.args.delay c.args.dead-time c.as-slice.result.now
-    c.as-slice-2.result.now c.in-Err.fault c.as-slice.ensures.value c.as-slice-2.ensures.value c.use-up.ensures
+    let r = set-refused (bench_of c.args.self.now) (bench_of c.use_up.new.self) c.args.delay c.args.dead_time c.as_slice.result.now
+    c.as_slice-2.result.now c.in-Err.fault c.as_slice.ensures.value c.as_slice-2.ensures.value c.use_up.ensures
     c.in-Err.ensures.0
     in
     record { answer = r.0; next = r.1 }

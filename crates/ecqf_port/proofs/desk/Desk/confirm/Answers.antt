@@ -9,21 +9,21 @@ use Rattle.ecqf_port.proofs.Pairing.{Matching, matching-all, confirm-spent, spen
 use Rattle.ecqf_port.proofs.Carrying.{done}
 use Rattle.ecqf_port.proofs.desk.Desk.confirm.Goals as goal
 
-pub returns-in-default : goal.returns-in-default
+pub returns-in_default : goal.returns-in_default
 unfolding confirm_done
-returns-in-default g c =
+returns-in_default g c =
     let b = state_of c.args.self.now.port.book in
     let ns = vec_items c.args.self.now.notes in
     let l : length ns ≡ 128 = omega (arith, c.args.self.now.notes.ok.0, c.args.self.now.places) in
     let a = matching-all b ns c.args.self.now.port.book.full l c.args.self.now.paired c.args.stream in
-    let e : None ≡ note_in b c.args.stream = c.in-default.ensures.value ∙ a in
+    let e : None ≡ note_in b c.args.stream = c.in_default.ensures.value ∙ a in
     let d = done (bench_with b) b (λ b. spent Live (confirm_of b) b (note_in b c.args.stream)) NoNote b refl (ap (λ x. (spent Live (confirm_of b) b x).0) e)
     (ap (λ x. (spent Live (confirm_of b) b x).1) e)
     in
     record { answer = d.0; next = d.1 }
 
-pub invariant-of-self-2 : goal.invariant-of-self-2
-invariant-of-self-2 g c =
+pub invariant_of-self-2 : goal.invariant_of-self-2
+invariant_of-self-2 g c =
     let b = state_of c.args.self.now.port.book in
     let ns = vec_items c.args.self.now.notes in
     let l : length ns ≡ 128 = omega (arith, c.args.self.now.notes.ok.0, c.args.self.now.places) in
@@ -35,7 +35,10 @@ invariant-of-self-2 g c =
     let k = spent-matching b ns c.args.stream _ n _ f l m (confirmed-unheld (row_of b c.args.stream)) s in
     let j : Matching (state_of c.confirm.new.self.book) (vec_items c.take.new.notes) =
     λ s h. ap (λ x. get_or x s None) c.take.ensures.items ∙ k s h ∙ sym (ap (λ x. note_in x s) c.confirm.ensures.next) in
-    (search rules, (j, tt))
+    record {
+      places = search rules;
+      paired = j;
+    }
 
 pub unreachable-requires : goal.unreachable-requires
 unreachable-requires g c =

@@ -8,9 +8,9 @@ loop-stream-init g c = dropping-none (desk_of c.args.self.now) _ (search rules)
 
 pub loop-stream-preserved : goal.loop-stream-preserved
 loop-stream-preserved g c =
-    dropping-more (desk_of c.args.self.now) (desk_of c.loop-stream.self) (desk_of c.drop-note.new.self) c.loop-stream.dropped
-    c.loop-stream.stream c.drop-note.result c.is-free.result (search rules) c.loop-stream.self.port.book.full
-    c.drop-note.ensures.answer c.drop-note.ensures.next c.is-free.ensures c.loop-stream.invariant
+    dropping-more (desk_of c.args.self.now) (desk_of c.loop-stream.self) (desk_of c.drop_note.new.self) c.loop-stream.dropped
+    c.loop-stream.stream c.drop_note.result c.is_free.result (search rules) c.loop-stream.self.port.book.full
+    c.drop_note.ensures.answer c.drop_note.ensures.next c.is_free.ensures c.loop-stream.invariant
 
 pub returns : goal.returns
 returns g c =

@@ -9,21 +9,21 @@ use Rattle.ecqf_port.proofs.Pairing.{Matching, matching-all, drop-spent, spent-m
 use Rattle.ecqf_port.proofs.Carrying.{done}
 use Rattle.ecqf_port.proofs.desk.Desk.drop_note.Goals as goal
 
-pub returns-in-default : goal.returns-in-default
+pub returns-in_default : goal.returns-in_default
 unfolding drop_done
-returns-in-default g c =
+returns-in_default g c =
     let b = state_of c.args.self.now.port.book in
     let ns = vec_items c.args.self.now.notes in
     let l : length ns ≡ 128 = omega (arith, c.args.self.now.notes.ok.0, c.args.self.now.places) in
     let a = matching-all b ns c.args.self.now.port.book.full l c.args.self.now.paired c.args.stream in
-    let e : None ≡ note_in b c.args.stream = c.in-default.ensures.value ∙ a in
+    let e : None ≡ note_in b c.args.stream = c.in_default.ensures.value ∙ a in
     let d = done (bench_with b) b (λ b. spent Free (drop_of b) b (note_in b c.args.stream)) NoNote b refl (ap (λ x. (spent Free (drop_of b) b x).0) e)
     (ap (λ x. (spent Free (drop_of b) b x).1) e)
     in
     record { answer = d.0; next = d.1 }
 
-pub invariant-of-self-2 : goal.invariant-of-self-2
-invariant-of-self-2 g c =
+pub invariant_of-self-2 : goal.invariant_of-self-2
+invariant_of-self-2 g c =
     let b = state_of c.args.self.now.port.book in
     let ns = vec_items c.args.self.now.notes in
     let l : length ns ≡ 128 = omega (arith, c.args.self.now.notes.ok.0, c.args.self.now.places) in
@@ -33,9 +33,12 @@ invariant-of-self-2 g c =
     let p : note_in b c.args.stream ≡ Some n = sym (matching-all b ns f l m c.args.stream) ∙ sym c.in-Some.ensures.value in
     let s = drop-spent b c.args.stream n f p in
     let k = spent-matching b ns c.args.stream _ n _ f l m (dropped-unheld (row_of b c.args.stream)) s in
-    let j : Matching (state_of c.drop-hold.new.self.book) (vec_items c.take.new.notes) =
-    λ s h. ap (λ x. get_or x s None) c.take.ensures.items ∙ k s h ∙ sym (ap (λ x. note_in x s) c.drop-hold.ensures.next) in
-    (search rules, (j, tt))
+    let j : Matching (state_of c.drop_hold.new.self.book) (vec_items c.take.new.notes) =
+    λ s h. ap (λ x. get_or x s None) c.take.ensures.items ∙ k s h ∙ sym (ap (λ x. note_in x s) c.drop_hold.ensures.next) in
+    record {
+      places = search rules;
+      paired = j;
+    }
 
 pub unreachable-requires : goal.unreachable-requires
 unreachable-requires g c =
@@ -63,8 +66,8 @@ returns g c =
     let p : note_in b c.args.stream ≡ Some n =
     sym (matching-all b ns f l c.args.self.now.paired c.args.stream) ∙ sym c.in-Some.ensures.value in
     let s = drop-spent b c.args.stream n f p in
-    let d = done (bench_with b) b (λ b. spent Free (drop_of b) b (note_in b c.args.stream)) Free (state_of c.drop-hold.new.self.book) refl
+    let d = done (bench_with b) b (λ b. spent Free (drop_of b) b (note_in b c.args.stream)) Free (state_of c.drop_hold.new.self.book) refl
     (ap (said_of_note Free) (sym s.answer) ∙ ap (λ x. (spent Free (drop_of b) b x).0) (sym p))
-    (c.drop-hold.ensures.next ∙ ap (λ x. (spent Free (drop_of b) b x).1) (sym p))
+    (c.drop_hold.ensures.next ∙ ap (λ x. (spent Free (drop_of b) b x).1) (sym p))
     in
     record { answer = d.0; next = d.1 }

@@ -17,8 +17,8 @@ put-requires g c =
     let h = hold-taken b c.args.stream c.args.booking c.in-Ok.note t in
     (search rules, hold-place b ns c.args.stream c.args.booking c.in-Ok.note c.args.self.now.paired t)
 
-pub invariant-of-self : goal.invariant-of-self
-invariant-of-self g c =
+pub invariant_of-self : goal.invariant_of-self
+invariant_of-self g c =
     let b = state_of c.args.self.now.port.book in
     let ns = vec_items c.args.self.now.notes in
     let l : length ns ≡ 128 = omega (arith, c.args.self.now.notes.ok.0, c.args.self.now.places) in
@@ -26,15 +26,21 @@ invariant-of-self g c =
     (sym c.in-Ok.ensures.answer) in
     let j : Matching (state_of c.hold.new.self.book) (vec_items c.put.new.notes) =
     λ s h. ap (λ x. get_or x s None) c.put.ensures ∙ k s h ∙ sym (ap (λ x. note_in x s) c.hold.ensures.next) in
-    (search rules, (j, tt))
+    record {
+      places = search rules;
+      paired = j;
+    }
 
-pub invariant-of-self-in-Err· : goal.invariant-of-self-in-Err·
-invariant-of-self-in-Err· g c =
+pub invariant_of-self-in-Err-1 : goal.invariant_of-self-in-Err-1
+invariant_of-self-in-Err-1 g c =
     let b = state_of c.args.self.now.port.book in
     let ns = vec_items c.args.self.now.notes in
     let e = c.hold.ensures.next ∙ hold-refused-says b c.args.stream c.args.booking c.in-Err.fault (sym c.in-Err.ensures.answer) in
     let j : Matching (state_of c.hold.new.self.book) ns = λ s h. c.args.self.now.paired s h ∙ sym (ap (λ x. note_in x s) e) in
-    (search rules, (j, tt))
+    record {
+      places = search rules;
+      paired = j;
+    }
 
 pub returns-in-Ok : goal.returns-in-Ok
 unfolding hold_done

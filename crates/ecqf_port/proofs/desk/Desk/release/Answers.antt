@@ -8,15 +8,18 @@ use Rattle.ecqf_port.proofs.Pairing.{Matching, matching-kept, release-kept}
 use Rattle.ecqf_port.proofs.Carrying.{done}
 use Rattle.ecqf_port.proofs.desk.Desk.release.Goals as goal
 
-pub invariant-of-self : goal.invariant-of-self
-invariant-of-self g c =
+pub invariant_of-self : goal.invariant_of-self
+invariant_of-self g c =
     let b = state_of c.args.self.now.port.book in
     let ns = vec_items c.args.self.now.notes in
     let k : Matching (state_of c.release.new.self.book) ns =
     matching-kept b (state_of c.release.new.self.book) ns
     (λ s. ap (λ x. note_in x s) c.release.ensures.next ∙ release-kept b c.args.stream c.args.self.now.port.book.full s)
     c.args.self.now.paired in
-    (search rules, (k, tt))
+    record {
+      places = search rules;
+      paired = k;
+    }
 
 pub returns-in-Ok : goal.returns-in-Ok
 unfolding release_done

@@ -6,4 +6,4 @@ pub returns-in-Ok : goal.returns-in-Ok
 returns-in-Ok c = ap unless_places (sym c.in-Ok.ensures.0)
 
 pub returns-in-Err : goal.returns-in-Err
-returns-in-Err c = c.unless-places.ensures ∙ ap unless_places (sym c.in-Err.ensures)
+returns-in-Err c = c.unless_places.ensures ∙ ap unless_places (sym c.in-Err.ensures)
