@@ -1,6 +1,6 @@
 -- A sequence of frames of one stream that keeps its contract, and what any placer makes of it. Lists are newest first.
 use Rattle.std.specs.Prelude.{◌≡◌, ℕ, ◌+◌, ◌<◌, ◌≤◌, cond, List, [], ◌∷◌, map, Ok, Result, ◌==◌}
-use Rattle.std.specs.List.{AllByRecursion as All}
+use Rattle.std.specs.List.{AllByRecursion}
 use Rattle.book.specs.Ticks.{last_tick}
 use Rattle.placers.specs.declared.faults.PlacerFault.{PlacerFault}
 use Rattle.placers.specs.declared.terms.Terms.{Terms}
@@ -59,7 +59,7 @@ module _ {Record : Type 0} (m : Rules Record) (t : Terms) where
 -- Cycles never go down.
 unfoldable pub Rising : List ℕ → Type 0
 Rising [] = Unit {0}
-Rising (q ∷ qs) = All (λ p. p ≤ q) qs × Rising qs
+Rising (q ∷ qs) = AllByRecursion (λ p. p ≤ q) qs × Rising qs
 
 -- A frame of input cycle i goes from the cycle after i on, at most h after it.
 pub record Near (h q i : ℕ) : Type 0 where

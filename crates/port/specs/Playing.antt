@@ -1,6 +1,6 @@
 -- A run of the wire as a function over a rack does it: from a clock up to a tick, with the departures written into a list.
 use Rattle.std.specs.Prelude.{◌≡◌, ℕ, suc, ◌-◌, ◌*◌, ◌/◌, ◌<◌, ◌≤◌, ◌⊎◌, List, [], ◌∷◌, length, Some, None, Option, slice_set}
-use Rattle.std.specs.List.{AllByRecursion as All}
+use Rattle.std.specs.List.{AllByRecursion}
 use Rattle.book.specs.Told.{SetNumbers, cycle_of}
 use Rattle.racks.specs.Bins.{bin_of, held_in}
 use Rattle.placers.specs.Placers.{replaced}
@@ -22,7 +22,7 @@ module _ {L : Type 0} (bins : List (List L)) (bin : ℕ) where
 
 -- Every load that waits has at least the length of the shortest frame.
 abbrev pub Long : {L : Type 0} → Loads L → (ℕ → List L) → Type 0
-Long loads bins = (b : ℕ) → All (λ x. 64 ≤ loads.length_of x) (bins b)
+Long loads bins = (b : ℕ) → AllByRecursion (λ x. 64 ≤ loads.length_of x) (bins b)
 
 abbrev pub sending_at : {L : Type 0} → (clock wire : ℕ) → (ℕ → List L) → List (Departure L) → Sending L
 sending_at clock wire bins sent = record { clock = clock; wire = wire; bins = bins; sent = sent }

@@ -1,6 +1,6 @@
 -- The laws of a module over every history of calls.
 use Rattle.std.specs.Prelude.{◌≡◌, ℕ, suc, ◌+◌, ◌-◌, ◌*◌, ◌<◌, ◌≤◌, cond, List, ◌++◌, length, nat_lt}
-use Rattle.std.specs.List.{AllByRecursion as All}
+use Rattle.std.specs.List.{AllByRecursion}
 use Rattle.book.specs.declared.rows.Row.{Row}
 use Rattle.book.specs.declared.rows.Row.TheVariants.{Free, Held, Live, Leaving}
 use Rattle.book.specs.Ticks.{start_of}
@@ -47,7 +47,7 @@ module _ {L Record : Type 0} (loads : Loads L) (m : Rules Record) (s : SetNumber
     pub within_quota : (i c q : ℕ) → c < class_count s → current_of s (clock_of loads m (after loads m s begun h)) c ≤ q
         → octets_for loads i (given loads m s begun h c q) ≤ allowed c q (row_of (after loads m s begun h).book i)
     -- Every departure is whole.
-    pub whole : All (Whole loads s) (written loads m s begun h)
+    pub whole : AllByRecursion (Whole loads s) (written loads m s begun h)
     -- What was given a cycle has left in it, all of it and in order, once the cycle has ended.
     pub emptied : (c q : ℕ) → c < class_count s → Ended loads m s begun h c q
         → left loads m s begun h c q ≡ given loads m s begun h c q
