@@ -1,6 +1,6 @@
 // The tests of all crates, as tables of cases. Each refusal stands beside the nearest call that is accepted.
 mod books;
 mod naive;
-mod placers;
-mod racks;
+mod of_placers;
+mod of_racks;
 mod sets;

@@ -6,5 +6,5 @@ use Rattle.port_examples.proofs.tests.ports.admit.Goals as goal
 
 pub unreachable-requires : goal.unreachable-requires
 unreachable-requires g c =
-    good-confirmed (state_of c.hold.new.self.book) c.in-ok-note.note c.in-Err.field-0-1 c.in-Err.field-0-0
-    c.in-ok-note.ensures.spendable (sym c.in-Err.ensures.answer)
+    good-confirmed (state_of c.hold.new.self.book) c.in_ok-note.note c.in-Err.field-0-1 c.in-Err.field-0-0
+    c.in_ok-note.ensures.spendable (sym c.in-Err.ensures.answer)
