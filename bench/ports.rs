@@ -297,7 +297,7 @@ fn run_plain() -> (u64, u64, u64) {
 
 // The same of the proved port over rows and over cells, as its program tells them, and what it tells of the idle runs.
 fn run_proved() -> ([(u64, u64, u64); 2], String) {
-    let out = Command::new("target/bin/port_bench").arg("time").output().expect("target/bin/port_bench");
+    let out = Command::new("crates/port_bench/out/port_bench").arg("time").output().expect("crates/port_bench/out/port_bench");
     let text = String::from_utf8(out.stdout).expect("text");
     let (front, idle) = text.split_at(text.find("idle").unwrap_or(text.len()));
     let numbers: Vec<u64> = front.split(|c: char| !c.is_ascii_digit()).filter_map(|w| w.parse().ok()).collect();

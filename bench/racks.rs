@@ -87,7 +87,7 @@ fn run_plain() -> (u64, u64) {
 
 // Nanoseconds of the rows rack and of the cells rack, as the proved program tells them, and what each took.
 fn run_proved() -> [(u64, u64); 2] {
-    let out = Command::new("target/bin/rack_bench").arg("time").output().expect("target/bin/rack_bench");
+    let out = Command::new("crates/rack_bench/out/rack_bench").arg("time").output().expect("crates/rack_bench/out/rack_bench");
     let text = String::from_utf8(out.stdout).expect("text");
     let numbers: Vec<u64> = text.split(|c: char| !c.is_ascii_digit()).filter_map(|w| w.parse().ok()).collect();
     [(numbers[2], numbers[0]), (numbers[3], numbers[1])]
