@@ -1,5 +1,5 @@
 -- What each call answers and leaves, from its tests: one lemma for each way.
-use Rattle.std.proofs.Common.{◌≡◌, ℕ, ◌<◌, ◌≤◌, Bool, true, false, not, ◌&&◌, ◌||◌, eqb, ltb, List, [], ◌∷◌, get_or, set, Some, None, Ok, Err, Option, Result, sym, refl, ap, ◌∙◌}
+use Rattle.std.proofs.Common.{◌≡◌, ℕ, ◌≤◌, Bool, true, false, not, ◌&&◌, ◌||◌, eqb, ltb, [], ◌∷◌, set, Some, None, Ok, Err, Option, refl, ap}
 use Rattle.std.proofs.lemmas.Bool.{and_parts, or_parts, not-true, ltb-false}
 use Rattle.book.specs.declared.faults.BookFault.{BookFault}
 use Rattle.book.specs.declared.faults.BookFault.TheVariants.{NotThere, BadLengths, WrongState, BadUntil}
@@ -7,9 +7,9 @@ use Rattle.book.specs.declared.rows.Booking.{Booking}
 use Rattle.book.specs.declared.rows.Row.{Row}
 use Rattle.book.specs.declared.rows.Row.TheVariants.{Free, Held, Live, Leaving}
 use Rattle.book.specs.declared.ledger.Note.{Note}
-use Rattle.book.specs.Faults.{first_hit, check, or_else}
+use Rattle.book.specs.Faults.{first_hit, check}
 use Rattle.book.specs.Ticks.{last_tick}
-use Rattle.book.specs.Rows.{is_free, is_held, fits, holding, confirmed, dropped, released, releasing}
+use Rattle.book.specs.Rows.{is_free, is_held, fits, holding, confirmed, dropped, releasing}
 use Rattle.book.specs.Sums.{over_fault}
 use Rattle.book.specs.Books.{BookState, row_of, changed, lacks, no_stream, no_input, no_class_at, note_of, judged, hold_fault, hold_of, held_by, spent_by, confirm_of, drop_of, released_by, release_of, advanced, advance_of}
 

@@ -1,5 +1,5 @@
 -- The check of settings passes exactly those that keep the rules, read as facts.
-use Rattle.std.proofs.Common.{◌≡◌, ℕ, zero, suc, ◌+◌, ◌-◌, ◌*◌, ◌/◌, ◌%◌, ◌<◌, ◌≤◌, Bool, true, false, cond, not, ◌&&◌, eqb, ltb, leb, List, [], ◌∷◌, length, get_or, take, is_some, Some, None, Option, sym, refl, ap, ◌∙◌, subst, ⊎_elim, mul-le-mul_left, arith}
+use Rattle.std.proofs.Common.{◌≡◌, ℕ, zero, suc, ◌+◌, ◌*◌, ◌/◌, ◌%◌, ◌<◌, ◌≤◌, Bool, true, false, not, ◌&&◌, eqb, leb, List, [], ◌∷◌, length, get_or, take, Some, None, Option, refl, ap, ◌∙◌, ⊎_elim, mul-le-mul_left, arith}
 use native.Mathlib.Nat.{div-add-mod}
 use Rattle.std.proofs.lemmas.List.{get_or_past}
 use Rattle.std.proofs.lemmas.Bool.{cases_lt, and_parts, and_from, leb-true, ltb-true, eqb-true, le-leb, lt-ltb, eq-eqb}
@@ -7,10 +7,10 @@ use Rattle.book.specs.declared.faults.BookFault.{BookFault}
 use Rattle.book.specs.declared.faults.BookFault.TheVariants.{NotInNumber, OutOfLimits, TooFewBins}
 use Rattle.book.specs.declared.setup.Class.{Class}
 use Rattle.book.specs.Faults.{first_hit, check}
-use Rattle.book.specs.Ticks.{inside, bins_needed}
+use Rattle.book.specs.Ticks.{inside}
 use Rattle.book.specs.declared.setup.Settings.{Settings}
 use Rattle.book.specs.Sets.{numbers_of}
-use Rattle.book.specs.Told.{SetNumbers, told, set_fault, in_number, within_limits, enough_bins, all_below, class_fits, step_fits, phase_fits, serves, serves_all, whole_times, cycle_in, cycle_of, bins_in, bins_of, no_class, class_count, input_count, slowest, shift_of, Legal}
+use Rattle.book.specs.Told.{SetNumbers, told, set_fault, in_number, within_limits, enough_bins, all_below, class_fits, step_fits, phase_fits, serves, serves_all, whole_times, cycle_in, cycle_of, bins_in, bins_of, no_class, class_count, input_count, Legal}
 use Rattle.book.proofs.Below.{below_each, below-from}
 use Rattle.book.proofs.Within.{none_from}
 

@@ -1,5 +1,5 @@
 -- A loop that changes each element of a list in place, one after the other.
-use Rattle.std.proofs.Common.{◌≡◌, ℕ, ◌+◌, ◌<◌, ◌≤◌, List, [], ◌∷◌, ◌++◌, map, length, get_or, take, drop, set, sym, refl, ap, ◌∙◌, arith}
+use Rattle.std.proofs.Common.{◌≡◌, ℕ, ◌+◌, ◌<◌, ◌≤◌, List, [], ◌∷◌, ◌++◌, map, length, get_or, take, drop, set, sym, ap, ◌∙◌, arith}
 use Rattle.std.proofs.lemmas.List.{length-map, length-take-le, drop_more, map_more, set_at, get_or_at, take_all, drop_all, append-nil, append_assoc}
 
 module _ {X : Type 0} (f : X → X) (xs ys : List X) (i : ℕ) where

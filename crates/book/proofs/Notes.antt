@@ -1,7 +1,7 @@
 -- A note is good for the book that gave it: laws for the layers above, which need not open the rules of a hold.
-use Rattle.std.proofs.Common.{◌≡◌, ℕ, ◌<◌, ◌≤◌, Bool, true, false, not, ◌&&◌, ◌||◌, eqb, ltb, List, [], ◌∷◌, length, get_or, set, Some, None, Ok, Err, Option, sym, refl, ap, ◌∙◌, subst, arith}
+use Rattle.std.proofs.Common.{◌≡◌, ℕ, ◌≤◌, Bool, true, false, not, List, length, set, Some, None, Ok, Err, Option, sym, refl, ap, ◌∙◌, arith}
 use Rattle.std.proofs.lemmas.List.{get_or-set_same, set-set, set-get_or}
-use Rattle.std.proofs.lemmas.Bool.{eq-eqb, le-ltb, ltb-false, or_parts, not-false}
+use Rattle.std.proofs.lemmas.Bool.{eq-eqb, le-ltb, not-false}
 use Rattle.book.specs.declared.faults.BookFault.{BookFault}
 use Rattle.book.specs.declared.faults.BookFault.TheVariants.{WrongState}
 use Rattle.book.specs.declared.rows.Booking.{Booking}
@@ -9,7 +9,7 @@ use Rattle.book.specs.declared.rows.Row.{Row}
 use Rattle.book.specs.declared.rows.Row.TheVariants.{Free, Held, Live, Leaving}
 use Rattle.book.specs.declared.ledger.Note.{Note}
 use Rattle.book.specs.Rows.{is_free, is_held, fits, holding, confirmed, dropped}
-use Rattle.book.specs.Books.{BookState, row_of, with_rows, changed, lacks, no_stream, no_input, no_class_at, judged, note_of, hold_fault, hold_of, held_by, spent_by, confirm_of, drop_of}
+use Rattle.book.specs.Books.{BookState, row_of, with_rows, changed, lacks, judged, note_of, hold_fault, hold_of, held_by, spent_by, confirm_of, drop_of}
 use Rattle.book.proofs.Within.{nope}
 use Rattle.book.proofs.Answering.{free-holding, confirm-at, drop_at, lacks-not}
 use Rattle.book.proofs.Steps.{hold-passed}

@@ -1,5 +1,5 @@
 -- Refusal 8 of a hold names the lowest class that the hold would take past its cycle.
-use Rattle.std.proofs.Common.{◌≡◌, ℕ, ◌+◌, ◌-◌, ◌<◌, ◌≤◌, Bool, true, false, not, List, [], ◌∷◌, set, Some, None, Ok, Err, Option, sym, refl, ap, ◌∙◌, subst, arith}
+use Rattle.std.proofs.Common.{◌≡◌, ℕ, ◌-◌, Bool, true, false, not, List, [], ◌∷◌, set, Some, None, Err, Option, sym, subst, arith}
 use Rattle.book.specs.declared.faults.BookFault.{BookFault}
 use Rattle.book.specs.declared.faults.BookFault.TheVariants.{NotThere, BadLengths, WrongState, Over}
 use Rattle.book.specs.declared.rows.Booking.{Booking}

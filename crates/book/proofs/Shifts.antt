@@ -1,7 +1,7 @@
 -- The bins needed are the fewest that let the last hand-over come before its cycle.
-use Rattle.std.proofs.Common.{◌≡◌, ℕ, ◌+◌, ◌-◌, ◌*◌, ◌/◌, ◌<◌, ◌≤◌, refl, div-lt_iff_lt-mul, arith}
+use Rattle.std.proofs.Common.{◌≡◌, ℕ, ◌+◌, ◌-◌, ◌*◌, ◌/◌, ◌<◌, ◌≤◌, div-lt_iff_lt-mul, arith}
 use native.Mathlib.Nat.{lt-div-mul-add}
-use Rattle.book.specs.Ticks.{shift, bins_needed, start_of, Fewest}
+use Rattle.book.specs.Ticks.{bins_needed, start_of, Fewest}
 
 pub fewest : (delay cycle phase : ℕ) → 0 < cycle → Fewest delay cycle phase (bins_needed delay cycle phase)
 fewest delay cycle phase pos = record {

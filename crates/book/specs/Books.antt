@@ -1,17 +1,17 @@
 -- The book as plain values, and for every call its answer and the next state: the checks in their order, then the change.
-use Rattle.std.specs.Prelude.{ℕ, ◌+◌, ◌-◌, ◌<◌, ◌≤◌, Bool, true, false, cond, not, ◌&&◌, ◌||◌, List, [], ◌∷◌, map, length, replicate, Some, None, Ok, Err, Option, Result, ◌==◌, nat_lt, slice_index_or, slice_set}
+use Rattle.std.specs.Prelude.{ℕ, ◌-◌, Bool, true, false, cond, not, ◌&&◌, ◌||◌, List, [], ◌∷◌, map, replicate, Some, None, Ok, Err, Option, Result, ◌==◌, nat_lt, slice_index_or, slice_set}
 use Rattle.book.specs.declared.faults.BookFault.{BookFault}
 use Rattle.book.specs.declared.faults.BookFault.TheVariants.{NotThere, BadLengths, WrongState, BadUntil}
 use Rattle.book.specs.declared.rows.Booking.{Booking}
 use Rattle.book.specs.declared.rows.Row.{Row}
-use Rattle.book.specs.declared.rows.Row.TheVariants.{Free, Held, Live, Leaving}
+use Rattle.book.specs.declared.rows.Row.TheVariants.{Free, Held}
 use Rattle.book.specs.declared.ledger.Note.{Note}
 use Rattle.book.specs.declared.ledger.Book.{Book}
 use Rattle.book.specs.Faults.{first_hit, check, or_else}
 use Rattle.book.specs.Ticks.{last_tick}
 use Rattle.book.specs.Told.{SetNumbers, class_count, input_count, cycle_of}
 use Rattle.book.specs.Sets.{numbers_of}
-use Rattle.book.specs.Rows.{is_free, is_held, is_live, fits, holding, confirmed, dropped, released, releasing, settled, booked}
+use Rattle.book.specs.Rows.{is_free, is_held, fits, holding, confirmed, dropped, released, releasing, settled, booked}
 use Rattle.book.specs.Sums.{demand, over_fault}
 
 pub record BookState : Type 0 where

@@ -1,7 +1,7 @@
 -- Lemmas on the words of a line and on numerals.
-use Rattle.std.proofs.Common.{◌≡◌, ℕ, ◌+◌, ◌-◌, ◌*◌, ◌<◌, ◌≤◌, Bool, true, false, cond, ◌&&◌, eqb, leb, List, [], ◌∷◌, ◌++◌, length, get_or, take, drop, Some, None, Option, sym, refl, ap, ◌∙◌, append_assoc, append-nil, arith}
+use Rattle.std.proofs.Common.{◌≡◌, ℕ, ◌+◌, ◌-◌, ◌*◌, ◌<◌, ◌≤◌, Bool, true, false, cond, ◌&&◌, eqb, List, [], ◌∷◌, ◌++◌, length, get_or, take, drop, Some, None, Option, sym, refl, ap, ◌∙◌, append_assoc, append-nil, arith}
 use Rattle.std.proofs.lemmas.List.{take_more, drop_more, at_drop_more, at_drop_all, take_all, drop_all}
-use Rattle.std.proofs.lemmas.Bool.{cond-true, cond-false, and_left, lt-leb, le-leb, true≢false}
+use Rattle.std.proofs.lemmas.Bool.{cond-true, cond-false, lt-leb, le-leb, true≢false}
 use Rattle.ecqf.specs.Words.{is_gap, past_gaps, until_gap, from_gap, first_word, after_word}
 use Rattle.ecqf.specs.Script.{number, onward, says_nothing, command_in, understood, line_of}
 use Rattle.ecqf.specs.declared.script.Line.TheVariants.{Silent}

@@ -1,12 +1,9 @@
 -- What a line of a script says.
 use Rattle.std.specs.Prelude.{ℕ, Bool, true, false, cond, List, [], ◌∷◌, Some, None, codes, Option, ◌==◌}
 use Rattle.std.specs.Str.{bytes_eq}
-use Rattle.book.specs.declared.rows.Booking.{Booking}
-use Rattle.book.specs.declared.setup.Class.{Class}
 use Rattle.ecqf.specs.declared.script.Command.{Command}
 use Rattle.ecqf.specs.declared.script.Command.TheVariants.{Bins, AddClass, AddInput, Set, Hold, Confirm, Drop, Release, Advance, Show}
 use Rattle.ecqf.specs.declared.script.Name.{Name}
-use Rattle.ecqf.specs.declared.script.Name.TheVariants as Name
 use Rattle.ecqf.specs.declared.script.Line.{Line}
 use Rattle.ecqf.specs.declared.script.Line.TheVariants.{Silent, Does, NotUnderstood}
 use Rattle.ecqf.specs.Words.{first_word, after_word}

@@ -1,19 +1,16 @@
 -- Lemmas on the notes in hand beside the book that gave them.
-use Rattle.std.proofs.Common.{◌≡◌, ℕ, zero, suc, ◌+◌, ◌<◌, ◌≤◌, Bool, true, false, cond, not, ◌&&◌, eqb, ltb, leb, List, [], ◌∷◌, ◌++◌, map, length, get_or, set, Some, None, Ok, Err, Option, Result, sym, refl, ap, ◌∙◌, subst, ⊎_elim, arith}
+use Rattle.std.proofs.Common.{◌≡◌, ℕ, zero, suc, ◌<◌, ◌≤◌, Bool, true, false, cond, List, [], ◌∷◌, ◌++◌, length, get_or, set, Some, None, Ok, Err, Option, Result, sym, refl, ap, ◌∙◌, subst, ⊎_elim, arith}
 use lib.ListN.{get_or-map}
 use Rattle.std.proofs.lemmas.List.{get_or-set_same, get_or-set_other, get_or_past}
-use Rattle.std.proofs.lemmas.Bool.{cases_eq, cases_lt, eq-eqb, le-ltb, ltb-false, or_parts}
+use Rattle.std.proofs.lemmas.Bool.{cases_eq, cases_lt, ltb-false}
 use Rattle.book.specs.declared.faults.BookFault.{BookFault}
-use Rattle.book.specs.declared.faults.BookFault.TheVariants.{NotThere, BadLengths, WrongState, BadUntil}
 use Rattle.book.specs.declared.ledger.Note.{Note}
 use Rattle.book.specs.declared.rows.Booking.{Booking}
 use Rattle.book.specs.declared.rows.Row.{Row}
 use Rattle.book.specs.declared.rows.Row.TheVariants.{Free, Held, Live, Leaving}
-use Rattle.book.specs.Faults.{first_hit, check, or_else}
 use Rattle.book.specs.Told.{SetNumbers}
-use Rattle.book.specs.Rows.{is_free, is_held, fits, holding, confirmed, dropped, released, releasing, settled}
-use Rattle.book.specs.Sums.{over_fault}
-use Rattle.book.specs.Books.{BookState, row_of, note_of, with_rows, changed, no_stream, lacks, judged, hold_fault, hold_of, held_by, spent_by, confirm_of, drop_of, released_by, release_of, advanced, advance_of}
+use Rattle.book.specs.Rows.{is_free, is_held, holding, confirmed, dropped, released, releasing, settled}
+use Rattle.book.specs.Books.{BookState, row_of, note_of, with_rows, changed, no_stream, judged, hold_of, held_by, spent_by, confirm_of, drop_of, released_by, release_of, advanced, advance_of}
 use Rattle.book.proofs.Notes.{hold-taken-says, note-good}
 use Rattle.schedule.specs.declared.faults.PortFault.{PortFault}
 use Rattle.port.specs.Standing.{ran_book}

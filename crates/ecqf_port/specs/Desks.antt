@@ -1,5 +1,5 @@
 -- A desk as the bench of its port's book, with nothing named.
-use Rattle.std.specs.Prelude.{ℕ, Some}
+use Rattle.std.specs.Prelude.{Some}
 use Rattle.book.specs.Books.{BookState, state_of}
 use Rattle.ecqf_port.specs.declared.desk.Desk.{Desk}
 use Rattle.ecqf_port.specs.Benches.{BenchState, empty_bench, with_book}

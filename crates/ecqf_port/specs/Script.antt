@@ -1,8 +1,6 @@
 -- What a line of a script says.
 use Rattle.std.specs.Prelude.{ℕ, Bool, true, false, cond, List, [], ◌∷◌, Some, None, codes, Option, ◌==◌}
 use Rattle.std.specs.Str.{bytes_eq}
-use Rattle.book.specs.declared.rows.Booking.{Booking}
-use Rattle.book.specs.declared.setup.Class.{Class}
 use Rattle.loads.specs.Marked.{mark_of}
 use Rattle.ecqf_port.specs.declared.kinds.RackKind.{RackKind}
 use Rattle.ecqf_port.specs.declared.kinds.RackKind.TheVariants.{Rows, Cells}
@@ -11,7 +9,6 @@ use Rattle.ecqf_port.specs.declared.kinds.PlacerKind.TheVariants.{ByTime, ByCoun
 use Rattle.ecqf_port.specs.declared.script.Command.{Command}
 use Rattle.ecqf_port.specs.declared.script.Command.TheVariants.{Bins, AddClass, AddInput, Rack, Placer, Set, Hold, Confirm, Drop, Release, Advance, Frame, Filler, Run, Show}
 use Rattle.ecqf_port.specs.declared.script.Name.{Name}
-use Rattle.ecqf_port.specs.declared.script.Name.TheVariants as Name
 use Rattle.ecqf_port.specs.declared.script.Line.{Line}
 use Rattle.ecqf_port.specs.declared.script.Line.TheVariants.{Silent, Does, NotUnderstood}
 use Rattle.ecqf_port.specs.Words.{first_word, after_word}

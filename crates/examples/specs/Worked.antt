@@ -14,7 +14,7 @@ use Rattle.placers.specs.Timed.{time_rules}
 use Rattle.placers.specs.Counted.{count_rules}
 use Rattle.placers.specs.Sequences.{record_after}
 use Rattle.book.specs.Ticks.{bins_answer}
-use Rattle.book.specs.Told.{SetNumbers, told}
+use Rattle.book.specs.Told.{told}
 use Rattle.book.specs.Books.{BookState, new_book, hold_of}
 
 -- What a call came to: bins, a hold, a cycle, or a refusal with its number and values.

@@ -1,17 +1,16 @@
 -- A number that no module has: every call is refused, and changes nothing.
-use Rattle.std.proofs.Common.{◌≡◌, ℕ, ◌<◌, ◌≤◌, Bool, true, false, not, ◌&&◌, ◌||◌, eqb, ltb, [], ◌∷◌, set, Ok, Err, Result, sym, refl, ap, ◌∙◌, arith}
+use Rattle.std.proofs.Common.{◌≡◌, ℕ, ◌<◌, ◌≤◌, Bool, true, false, not, ◌||◌, eqb, ltb, [], ◌∷◌, set, Err, Result, sym, refl, arith}
 use Rattle.book.specs.declared.faults.BookFault.{BookFault}
 use Rattle.std.proofs.lemmas.Bool.{lt-ltb, le-ltb, and_right, or_left, or_right, not_from_false}
 use Rattle.book.specs.declared.faults.BookFault.TheVariants.{NotThere, BadLengths, WrongState}
 use Rattle.book.specs.declared.rows.Booking.{Booking}
-use Rattle.book.specs.declared.rows.Row.{Row}
 use Rattle.book.specs.declared.ledger.Note.{Note}
 use Rattle.book.specs.declared.rows.Row.TheVariants.{Held}
 use Rattle.book.specs.Faults.{first_hit, check, or_else}
 use Rattle.book.specs.Rows.{fits, is_free, holding}
 use Rattle.book.specs.Sums.{over_fault}
 use Rattle.book.proofs.Within.{nope}
-use Rattle.book.specs.Books.{lacks, no_input, no_class_at, row_of, judged, note_of, changed, no_stream, held_by, spent_by, hold_fault, hold_of, confirm_of, drop_of, release_of}
+use Rattle.book.specs.Books.{lacks, no_input, no_class_at, row_of, judged, note_of, changed, no_stream, held_by, hold_fault, hold_of, confirm_of, drop_of, release_of}
 use Rattle.placers.specs.declared.table.Latest.{Latest}
 use Rattle.schedule.specs.Modules as modules
 use Rattle.schedule.specs.Modules.{State, confirming, dropping, releasing}

@@ -1,5 +1,5 @@
 -- A module ahead of a bank: a call on number 0 is the module's, and one on a later number the bank's, with one less.
-use Rattle.std.proofs.Common.{◌≡◌, ℕ, zero, suc, ◌-◌, ◌<◌, sym, refl, ap, ◌∙◌, subst, arith}
+use Rattle.std.proofs.Common.{◌≡◌, ℕ, zero, suc, ◌-◌, sym, refl, ap, ◌∙◌, subst, arith}
 use Rattle.book.specs.Books.{BookState}
 use Rattle.schedule.specs.Modules.{State}
 use Rattle.schedule.specs.Histories.{Call, next_of}

@@ -1,5 +1,5 @@
 -- One module of a path: refused, a hold leaves it as it was; taken, its confirm makes the row live, and its drop gives the module back as it was.
-use Rattle.std.proofs.Common.{◌≡◌, ℕ, ◌<◌, ◌≤◌, Bool, true, false, cond, not, ◌&&◌, eqb, ◌⊎◌, List, length, get_or, set, Ok, Err, Result, sym, refl, ap, ◌∙◌, subst, inl, inr}
+use Rattle.std.proofs.Common.{◌≡◌, ℕ, ◌<◌, ◌≤◌, Bool, true, not, eqb, ◌⊎◌, List, length, get_or, set, Ok, Err, sym, refl, ap, ◌∙◌, subst, inl, inr}
 use Rattle.std.proofs.lemmas.List.{set-set, set-get_or, get_or-set_same, set_past}
 use Rattle.std.proofs.lemmas.Bool.{and_parts, cases_lt}
 use Rattle.book.specs.declared.faults.BookFault.{BookFault}

@@ -1,12 +1,11 @@
 -- One leg of a path: `old` before the leg's hold, `mid` after it, `far` after the rest of the path, `new` after the confirm or the drop.
-use Rattle.std.proofs.Common.{◌≡◌, ℕ, ◌+◌, ◌<◌, ◌≤◌, Bool, true, false, cond, ◌⊎◌, List, length, set, IfOk, Ok, Err, Result, sym, refl, ap, ◌∙◌, subst, inl, inr, le_refl, eq-or-lt_of_le, arith}
+use Rattle.std.proofs.Common.{◌≡◌, ℕ, ◌+◌, ◌<◌, ◌≤◌, true, ◌⊎◌, List, length, IfOk, Ok, Err, Result, sym, ap, ◌∙◌, subst, inl, inr, le_refl, eq-or-lt_of_le, arith}
 use Rattle.std.proofs.lemmas.Bool.{cases_eq}
 use Rattle.book.specs.declared.faults.BookFault.{BookFault}
 use Rattle.book.specs.declared.rows.Booking.{Booking}
-use Rattle.book.specs.declared.rows.Row.{Row}
-use Rattle.book.specs.declared.rows.Row.TheVariants.{Free, Held, Live, Leaving}
+use Rattle.book.specs.declared.rows.Row.TheVariants.{Live}
 use Rattle.book.specs.declared.ledger.Note.{Note}
-use Rattle.book.specs.Books.{BookState, row_of, note_of, held_by, hold_of, confirm_of, drop_of}
+use Rattle.book.specs.Books.{BookState, row_of, note_of, held_by, hold_of}
 use Rattle.book.proofs.Within.{nope}
 use Rattle.schedule.specs.Modules.{State}
 use Rattle.schedule.specs.Histories.{Call, Hold, Confirm, DropHold, next_of}

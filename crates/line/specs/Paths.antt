@@ -1,5 +1,5 @@
 -- Paths over the modules of a bank: which a line has, and what booking one answers and leaves.
-use Rattle.std.specs.Prelude.{◌≡◌, ℕ, ◌<◌, ◌≤◌, Bool, true, false, not, List, length, Some, None, Ok, Err, Option, Result, ◌==◌, ◌≢◌, slice_index_or}
+use Rattle.std.specs.Prelude.{◌≡◌, ℕ, ◌<◌, ◌≤◌, Bool, false, not, List, length, Some, None, Ok, Err, Option, Result, ◌==◌, ◌≢◌, slice_index_or}
 use Rattle.book.specs.declared.faults.BookFault.{BookFault}
 use Rattle.book.specs.declared.rows.Booking.{Booking}
 use Rattle.book.specs.declared.rows.Row.TheVariants.{Live}

@@ -1,6 +1,6 @@
 -- What the rows allow: no stream has more in a cycle than its row allows there, and the rows' bookings are admitted.
 -- It is kept when the clock moves on, when a row changes, when leaving rows are freed, and when a load is put.
-use Rattle.std.proofs.Common.{◌≡◌, ℕ, zero, suc, ◌+◌, ◌/◌, ◌<◌, ◌≤◌, Bool, true, false, cond, eqb, ltb, leb, ◌⊎◌, List, [], ◌∷◌, ◌++◌, map, length, get_or, set, is_some, sym, refl, ap, ◌∙◌, subst, inl, inr, arith}
+use Rattle.std.proofs.Common.{◌≡◌, ℕ, suc, ◌+◌, ◌<◌, ◌≤◌, Bool, true, false, cond, eqb, ltb, leb, List, [], ◌∷◌, ◌++◌, map, length, get_or, set, is_some, sym, refl, ap, ◌∙◌, subst, arith}
 use native.Mathlib.Decide.{ℕ_discrete}
 use lib.ListN.{get_or-map}
 use Rattle.std.specs.List.{AllByRecursion as All}
@@ -21,7 +21,7 @@ use Rattle.schedule.specs.Laws.{allowed}
 use Rattle.schedule.proofs.Cycles.{times_in, nested, rolls}
 use Rattle.schedule.proofs.Octets.{all-booked, for-push}
 use Rattle.schedule.proofs.Rings.{Else}
-use Rattle.schedule.proofs.Sound.{here?, at_each}
+use Rattle.schedule.proofs.Sound.{at_each}
 
 -- A booking that a hold took: its class and input are there, and its quota holds its longest frame.
 pub record FairBooking (s : SetNumbers) (k : Booking) : Type 0 where

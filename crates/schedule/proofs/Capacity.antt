@@ -1,6 +1,6 @@
 -- The room that bins take: every bin is that of some cycle in reach, so where no cycle has more loads than it can carry, no bin has,
 -- and all bins together have no more than the bins of all classes can.
-use Rattle.std.proofs.Common.{◌≡◌, ℕ, zero, suc, ◌+◌, ◌-◌, ◌*◌, ◌/◌, ◌%◌, ◌<◌, ◌≤◌, List, [], length, sym, refl, ap, ◌∙◌, subst, add-zero, add-suc, mod-lt, mul-le-mul_left, le-div_iff_mul-le, div-mul-le_self, arith}
+use Rattle.std.proofs.Common.{◌≡◌, ℕ, zero, suc, ◌+◌, ◌-◌, ◌*◌, ◌/◌, ◌%◌, ◌<◌, ◌≤◌, List, [], length, sym, ap, ◌∙◌, subst, add-zero, add-suc, mod-lt, mul-le-mul_left, le-div_iff_mul-le, div-mul-le_self, arith}
 use native.Mathlib.Decide.{dec_lt, dec_le, ℕ_discrete}
 use native.Mathlib.Nat.{mod-add-div}
 use lib.Arith.{digits_mod}

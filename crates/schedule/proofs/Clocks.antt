@@ -1,5 +1,5 @@
 -- The settings of a module stay, and its clock never passes the last tick.
-use Rattle.std.proofs.Common.{◌≡◌, ℕ, ◌≤◌, Bool, true, false, cond, not, ◌||◌, ltb, List, [], ◌∷◌, Some, None, Ok, Option, Result, refl, ap, ◌∙◌, arith}
+use Rattle.std.proofs.Common.{◌≡◌, ℕ, ◌≤◌, Bool, true, false, not, ltb, List, [], ◌∷◌, Some, None, Ok, Option, Result, refl, arith}
 use Rattle.std.proofs.lemmas.Bool.{ltb-false, or_parts}
 use Rattle.book.specs.declared.faults.BookFault.{BookFault}
 use Rattle.book.specs.declared.rows.Booking.{Booking}
@@ -18,7 +18,7 @@ use Rattle.schedule.specs.declared.faults.PortFault.{PortFault}
 use Rattle.schedule.specs.declared.faults.PortFault.TheVariants.{NotThere, BadLength, WireTaken, BadUntil, ShortList}
 use Rattle.schedule.specs.Faults.{check, first_hit}
 use Rattle.schedule.specs.Wires.{Loads}
-use Rattle.schedule.specs.Modules.{State, new_module, clock_of, judged, booked_fault, placing, placed_by, framing_by, framing, not_there, wire_taken, filled, filling, played, ran, bad_until, short_list, running, holding, confirming, dropping, releasing}
+use Rattle.schedule.specs.Modules.{State, clock_of, judged, booked_fault, placing, placed_by, framing_by, framing, not_there, wire_taken, filled, filling, played, ran, bad_until, short_list, running, holding, confirming, dropping, releasing}
 use Rattle.schedule.specs.Histories.{Call, Hold, Confirm, DropHold, Release, Frame, Filler, Run, next_of, after}
 
 module _ {L Record : Type 0} (loads : Loads L) (m : Rules Record) (s : SetNumbers) where

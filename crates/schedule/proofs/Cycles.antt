@@ -1,5 +1,5 @@
 -- Cycles of several classes beside each other, one tick on: each either goes on or ends, and where a slower one ends, so do the faster.
-use Rattle.std.proofs.Common.{◌≡◌, ℕ, suc, ◌+◌, ◌*◌, ◌/◌, ◌%◌, ◌<◌, ◌≤◌, ◌⊎◌, sym, ap, ◌∙◌, inl, inr, mod-lt, div-lt_iff_lt-mul, mul-div_cancel, arith}
+use Rattle.std.proofs.Common.{◌≡◌, ℕ, suc, ◌+◌, ◌*◌, ◌/◌, ◌%◌, ◌<◌, ◌⊎◌, sym, ap, ◌∙◌, inl, inr, mod-lt, div-lt_iff_lt-mul, mul-div_cancel, arith}
 use native.Mathlib.Decide.{dec_lt}
 use native.Mathlib.Nat.{div-eq_of_lt-le, mod-add-div, div-div-eq-div-mul}
 use Rattle.book.specs.Told.{SetNumbers, Legal, class_count, cycle_of}

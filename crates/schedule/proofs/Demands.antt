@@ -1,5 +1,5 @@
 -- The sum of admission, class by class: the octets booked per cycle of class c are those of c and m times those per cycle of the class below.
-use Rattle.std.proofs.Common.{◌≡◌, ℕ, zero, suc, ◌+◌, ◌*◌, ◌/◌, ◌<◌, ◌≤◌, false, List, is_some, sym, refl, ap, ◌∙◌, mul_assoc, arith}
+use Rattle.std.proofs.Common.{◌≡◌, ℕ, zero, suc, ◌*◌, ◌/◌, ◌<◌, ◌≤◌, false, List, is_some, sym, ap, ◌∙◌, mul_assoc, arith}
 use native.Mathlib.Decide.{ℕ_discrete}
 use native.Mathlib.Nat.{mul-div_cancel_left, div_self}
 use Rattle.book.specs.declared.rows.Row.{Row}

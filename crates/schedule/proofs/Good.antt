@@ -1,18 +1,17 @@
 -- All that holds of a module after a history, and that every tick keeps it.
-use Rattle.std.proofs.Common.{◌≡◌, ℕ, zero, suc, ◌+◌, ◌/◌, ◌<◌, ◌≤◌, Bool, true, false, cond, ◌&&◌, eqb, ltb, ◌⊎◌, List, [], ◌∷◌, ◌++◌, get_or, sym, refl, ap, ◌∙◌, subst, subst₂, inl, inr, div-mul-le_self, arith}
+use Rattle.std.proofs.Common.{◌≡◌, ℕ, zero, suc, ◌<◌, ◌≤◌, Bool, true, false, cond, eqb, ltb, ◌⊎◌, List, [], ◌∷◌, ◌++◌, sym, refl, ap, ◌∙◌, subst, inl, inr, div-mul-le_self, arith}
 use mathlib.Core.Path.{fun_ext}
 use Rattle.std.specs.List.{AllByRecursion as All}
 use Rattle.std.proofs.lemmas.List.{append-nil, append_assoc}
 use Rattle.std.proofs.ByRecursion.{All-push}
-use Rattle.std.proofs.lemmas.Bool.{ltb-true, ltb-false, eq-eqb, eqb-true, and_from, and_left, and_right, cond-true, cond-false}
-use Rattle.book.specs.declared.rows.Row.{Row}
-use Rattle.book.specs.Told.{SetNumbers, Legal, class_count, cycle_of, bins_of}
+use Rattle.std.proofs.lemmas.Bool.{ltb-true, ltb-false, eq-eqb, eqb-true, and_from, and_left, and_right}
+use Rattle.book.specs.Told.{SetNumbers, Legal, class_count, cycle_of}
 use Rattle.book.specs.Rows.{booked}
 use Rattle.book.specs.Books.{row_of}
 use Rattle.placers.specs.Placers.{Rules, replaced}
 use Rattle.schedule.specs.declared.departures.Departure.{Departure}
 use Rattle.schedule.specs.Bins.{bins_before, bin_of, current_of, waiting_in}
-use Rattle.schedule.specs.Wires.{Loads, wire_octets, Sending, Next, none, some, current_bin, next_out, departure, sending, moved, tick, ticks}
+use Rattle.schedule.specs.Wires.{Loads, Sending, Next, none, some, current_bin, next_out, departure, sending, moved, tick, ticks}
 use Rattle.schedule.specs.Modules.{State, clock_of}
 use Rattle.schedule.specs.Histories.{is_in, loads_in, octets_of}
 use Rattle.schedule.specs.Laws.{Whole}
@@ -20,7 +19,7 @@ use Rattle.schedule.proofs.Cycles.{times_in}
 use Rattle.schedule.proofs.Busy.{Admitted}
 use Rattle.schedule.proofs.Demands.{admitted}
 use Rattle.schedule.proofs.Rings.{Else, In, bin_small, waiting-in, ring-set, ring-step, replaced-other}
-use Rattle.schedule.proofs.Sound.{here?, Sound, advanced, fit, ends, sent}
+use Rattle.schedule.proofs.Sound.{Sound, advanced, fit, ends, sent}
 use Rattle.schedule.proofs.Allowances.{Booked, in-book, book-later}
 use Rattle.schedule.proofs.Records.{RecordedRow, record-later}
 use Rattle.schedule.proofs.Looks.{Looked, looked}

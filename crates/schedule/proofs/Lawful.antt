@@ -1,11 +1,9 @@
 -- The laws of a module: what holds of it after every history, and what follows.
-use Rattle.std.proofs.Common.{◌≡◌, ℕ, zero, suc, ◌+◌, ◌*◌, ◌/◌, ◌<◌, ◌≤◌, Bool, true, false, cond, ◌||◌, ltb, List, [], ◌∷◌, ◌++◌, length, get_or, replicate, Ok, sym, refl, ap, ◌∙◌, subst, le-div_iff_mul-le, arith}
-use mathlib.Core.Path.{fun_ext}
+use Rattle.std.proofs.Common.{◌≡◌, ℕ, zero, suc, ◌*◌, ◌/◌, ◌<◌, ◌≤◌, List, [], ◌∷◌, ◌++◌, length, get_or, replicate, sym, refl, ap, ◌∙◌, subst, le-div_iff_mul-le, arith}
 use native.Mathlib.Decide.{dec_lt}
 use Rattle.std.specs.List.{AllByRecursion as All}
 use Rattle.std.proofs.lemmas.List.{append-nil, length-replicate}
-use Rattle.std.proofs.lemmas.Bool.{ltb-false, cond_both, or_parts}
-use Rattle.book.specs.declared.rows.Row.{Row}
+use Rattle.std.proofs.lemmas.Bool.{cond_both}
 use Rattle.book.specs.declared.rows.Row.TheVariants.{Free}
 use Rattle.book.specs.Ticks.{last_tick}
 use Rattle.book.specs.Told.{SetNumbers, Legal, class_count, cycle_of}
@@ -14,11 +12,10 @@ use Rattle.book.specs.Books.{row_of}
 use Rattle.book.proofs.Within.{over-new}
 use Rattle.placers.specs.Placers.{Rules, Duties}
 use Rattle.schedule.specs.declared.departures.Departure.{Departure}
-use Rattle.schedule.specs.Faults.{check, first_hit}
 use Rattle.schedule.specs.Bins.{current_of, in_reach, waiting_in, loads_below, most_loads}
 use Rattle.schedule.specs.Wires.{Loads}
 use Rattle.schedule.specs.Modules.{State, new_module, clock_of}
-use Rattle.schedule.specs.Histories.{Call, Hold, Confirm, DropHold, Release, Frame, Filler, Run, answer_to, next_of, given_in, written_by, loads_in, octets_of, octets_for, after, written, given, left, waiting}
+use Rattle.schedule.specs.Histories.{Call, Hold, Confirm, DropHold, Release, Frame, Filler, Run, answer_to, next_of, given_in, written_by, loads_in, octets_of, octets_for, after, written, given}
 use Rattle.schedule.specs.Laws.{allowed, room_of, Whole, Laws, LawsOf}
 use Rattle.schedule.proofs.Cycles.{times_in, nested}
 use Rattle.schedule.proofs.Enough.{per_cycle}

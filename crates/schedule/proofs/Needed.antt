@@ -1,14 +1,13 @@
 -- The room that settings need, one class after the other.
-use Rattle.std.proofs.Common.{◌≡◌, ℕ, suc, ◌+◌, ◌-◌, ◌*◌, ◌/◌, ◌<◌, ◌≤◌, Bool, true, false, cond, ltb, length, get_or, Some, None, sym, refl, ap, ◌∙◌, subst, inl, inr, div-lt_iff_lt-mul, add-one, arith}
+use Rattle.std.proofs.Common.{◌≡◌, ℕ, ◌+◌, ◌*◌, ◌/◌, ◌<◌, ◌≤◌, Bool, true, false, cond, ltb, length, get_or, Some, None, sym, refl, ap, div-lt_iff_lt-mul, add-one, arith}
 use Rattle.std.proofs.lemmas.List.{get_or_past}
 use Rattle.std.proofs.lemmas.Bool.{ltb-true, ltb-false}
 use Rattle.book.specs.declared.setup.Class.{Class}
-use Rattle.book.specs.Told.{SetNumbers, Legal, no_class, class_count, cycle_of, bins_of}
+use Rattle.book.specs.Told.{SetNumbers, Legal, no_class, class_count, bins_of}
 use Rattle.book.specs.Sets.{class_at}
 use Rattle.book.proofs.Within.{nope}
-use Rattle.schedule.specs.declared.rooms.Room.{Room}
 use Rattle.schedule.specs.Bins.{bins_before, most_loads, most_below}
-use Rattle.schedule.specs.Laws.{room_in, room_of}
+use Rattle.schedule.specs.Laws.{room_in}
 
 module _ (s : SetNumbers) (c : ℕ) where
   -- A class that was found, and one that is not there.

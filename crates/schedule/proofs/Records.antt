@@ -1,6 +1,6 @@
 -- What the placer's records say of what was given: a stream has nothing in a cycle after its last one, and there no more than its record counts.
 -- So a frame that the placer accepts stays within the quota.
-use Rattle.std.proofs.Common.{◌≡◌, ℕ, suc, ◌+◌, ◌/◌, ◌<◌, ◌≤◌, cond, eqb, leb, ◌⊎◌, List, [], ◌∷◌, ◌++◌, sym, refl, ap, ◌∙◌, subst, subst₂, inl, inr, arith}
+use Rattle.std.proofs.Common.{◌≡◌, ℕ, suc, ◌+◌, ◌/◌, ◌<◌, ◌≤◌, eqb, leb, ◌⊎◌, List, [], ◌∷◌, ◌++◌, sym, refl, ap, ◌∙◌, subst, subst₂, inl, inr, arith}
 use native.Mathlib.Decide.{ℕ_discrete}
 use Rattle.std.proofs.lemmas.Bool.{eq-eqb, ne_eqb, cond-true, cond-false, cond_both, cases_order}
 use Rattle.book.specs.declared.rows.Booking.{Booking}
@@ -10,14 +10,14 @@ use Rattle.book.specs.Told.{SetNumbers, Legal, class_count, cycle_of}
 use Rattle.book.specs.Rows.{settled}
 use Rattle.placers.specs.declared.terms.Ask.{Ask}
 use Rattle.placers.specs.Terms.{terms_of}
-use Rattle.placers.specs.Placers.{Rules, octets_in, Asked, Led, placed, Due, replaced, given}
+use Rattle.placers.specs.Placers.{Rules, Asked, Led, placed, Due, replaced, given}
 use Rattle.schedule.specs.Bins.{current_of}
 use Rattle.schedule.specs.Wires.{Loads, wire_octets}
 use Rattle.schedule.specs.Histories.{octets_for}
 use Rattle.schedule.proofs.Cycles.{times_in, nested, rolls}
 use Rattle.schedule.proofs.Octets.{for-push}
 use Rattle.schedule.proofs.Rings.{Else, replaced-same, replaced-other}
-use Rattle.schedule.proofs.Sound.{here?, at_each}
+use Rattle.schedule.proofs.Sound.{at_each}
 use Rattle.schedule.proofs.Allowances.{Fair}
 
 -- What holds of each stream holds after its record and its stamp were replaced.

@@ -1,5 +1,5 @@
 -- The bins as rings: the cycles in reach have bins of their own, and when a cycle ends empty its bin is that of the next in reach.
-use Rattle.std.proofs.Common.{◌≡◌, ℕ, zero, suc, ◌+◌, ◌*◌, ◌/◌, ◌%◌, ◌<◌, ◌≤◌, Bool, true, false, cond, ◌&&◌, eqb, ltb, leb, ◌⊎◌, List, [], sym, refl, ap, ◌∙◌, subst, inl, inr, mod-lt, mul-le-mul_left, arith}
+use Rattle.std.proofs.Common.{◌≡◌, ℕ, zero, suc, ◌+◌, ◌*◌, ◌/◌, ◌%◌, ◌<◌, ◌≤◌, Bool, true, false, cond, eqb, ltb, leb, ◌⊎◌, List, [], sym, refl, ap, ◌∙◌, subst, inl, inr, mod-lt, mul-le-mul_left, arith}
 use native.Mathlib.Decide.{dec_lt, ℕ_discrete}
 use native.Mathlib.Nat.{mod-add-div, add-mod_right}
 use Rattle.std.proofs.lemmas.Bool.{lt-ltb, le-leb, ltb-true, leb-true, eq-eqb, ne_eqb, cond-true, cond-false, and_from, and_parts, cases_order, both_ways}

@@ -1,5 +1,5 @@
 -- A module stays good over frames, fillers and runs.
-use Rattle.std.proofs.Common.{◌≡◌, ℕ, zero, suc, ◌+◌, ◌-◌, ◌/◌, ◌<◌, ◌≤◌, Bool, true, false, cond, not, ◌&&◌, ◌||◌, eqb, ltb, leb, List, [], ◌∷◌, ◌++◌, map, length, get_or, Some, None, Ok, Err, Option, Result, sym, refl, ap, ◌∙◌, subst, add-zero, add-suc, arith}
+use Rattle.std.proofs.Common.{◌≡◌, ℕ, zero, suc, ◌+◌, ◌-◌, ◌<◌, ◌≤◌, Bool, true, false, cond, not, eqb, ltb, leb, List, [], ◌∷◌, ◌++◌, length, Some, None, Ok, Option, Result, sym, refl, ap, ◌∙◌, subst, add-zero, add-suc, arith}
 use mathlib.Core.Path.{fun_ext}
 use native.Mathlib.Decide.{ℕ_discrete}
 use lib.ListN.{get_or-map}
@@ -9,7 +9,7 @@ use Rattle.book.specs.declared.rows.Booking.{Booking}
 use Rattle.book.specs.declared.rows.Row.{Row}
 use Rattle.book.specs.declared.rows.Row.TheVariants.{Free, Held, Live, Leaving}
 use Rattle.book.specs.Ticks.{inside, last_tick}
-use Rattle.book.specs.Told.{SetNumbers, class_count, bins_of}
+use Rattle.book.specs.Told.{SetNumbers, class_count}
 use Rattle.book.specs.Rows.{booked, settled}
 use Rattle.book.specs.Books.{row_of, no_stream, no_input}
 use Rattle.book.proofs.Within.{nope}
@@ -20,7 +20,7 @@ use Rattle.placers.specs.Placers.{Rules, Duties, Asked, Due}
 use Rattle.placers.proofs.Legality.{legal-terms}
 use Rattle.schedule.specs.declared.departures.Departure.{Departure}
 use Rattle.schedule.specs.declared.faults.PortFault.{PortFault}
-use Rattle.schedule.specs.declared.faults.PortFault.TheVariants.{NotThere, NotLive, WrongInput, BadLength, BadStamp, StampBack, WireTaken, BadUntil, ShortList}
+use Rattle.schedule.specs.declared.faults.PortFault.TheVariants.{NotThere, WrongInput, BadLength, BadStamp, StampBack, WireTaken, BadUntil, ShortList}
 use Rattle.schedule.specs.Faults.{check, first_hit}
 use Rattle.schedule.specs.Bins.{bin_of, current_of, waiting_in}
 use Rattle.schedule.specs.Wires.{Loads, wire_octets, Sending, Next, none, some, is_some, current_bin, next_out, sending, tick, ticks}
@@ -29,7 +29,7 @@ use Rattle.schedule.specs.Modules as modules
 use Rattle.schedule.specs.Histories as histories
 use Rattle.schedule.specs.Histories.{loads_in, of_class, given_by, octets_for}
 use Rattle.schedule.proofs.Demands.{admitted}
-use Rattle.schedule.proofs.Rings.{Else, In, waiting-in, ring-set, replaced-same}
+use Rattle.schedule.proofs.Rings.{Else, In, waiting-in, ring-set}
 use Rattle.schedule.proofs.Sound.{put, filled}
 use Rattle.schedule.proofs.Allowances.{FairBooking, Fair, book-put, book-settled}
 use Rattle.schedule.proofs.Records.{Recorded, RecordedRow, replaced-each, record-fits, record-put, record-beside, record-settled}

@@ -1,7 +1,6 @@
-use Rattle.std.proofs.Common.{◌≡◌, ◌+◌, ◌<◌, ◌≤◌, length, get_or, take, sym, refl, ◌∙◌, add-one, arith}
+use Rattle.std.proofs.Common.{◌<◌, ◌≤◌, length, add-one, arith}
 use Rattle.std.proofs.lemmas.List.{take_all}
 use Rattle.book.specs.declared.rows.Row.TheVariants.{Free}
-use Rattle.book.specs.Rows.{booked}
 use Rattle.book.proofs.Sums.{booked-more, booked-none}
 use Rattle.book.proofs.rows.booked.Goals as goal
 

@@ -1,4 +1,4 @@
-use Rattle.std.proofs.Common.{◌≡◌, ◌<◌, ◌≤◌, length, sym, refl, ap, ◌∙◌, arith}
+use Rattle.std.proofs.Common.{refl}
 use Rattle.book.specs.Sets.{numbers_of}
 use Rattle.book.specs.Rows.{settled}
 use Rattle.book.specs.declared.rows.Row.TheVariants.{Free}

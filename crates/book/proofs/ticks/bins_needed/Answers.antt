@@ -1,7 +1,5 @@
-use Rattle.std.proofs.Common.{◌≡◌, ◌+◌, ◌<◌, sym, refl, ap, subst, arith, rules}
+use Rattle.std.proofs.Common.{arith}
 use Rattle.std.proofs.lemmas.Bool.Decides.{nat_tests}
-use Rattle.std.proofs.lemmas.Bool.{le-leb, lt-ltb, and_from, cond-true}
-use Rattle.book.specs.Ticks.{bins_told, Fewest}
 use Rattle.book.proofs.Shifts.{fewest}
 use Rattle.book.proofs.ticks.bins_needed.Goals as goal
 

@@ -1,4 +1,4 @@
-use Rattle.std.proofs.Common.{◌≡◌, ◌+◌, ◌-◌, ◌*◌, ◌<◌, false, eqb, length, get_or, drop, sym, ap, ◌∙◌, arith, rules}
+use Rattle.std.proofs.Common.{◌≡◌, ◌+◌, ◌-◌, ◌*◌, ◌<◌, get_or, drop, ap, ◌∙◌, arith, rules}
 use Rattle.ecqf_port.specs.Numerals.{digits_after}
 use Rattle.ecqf_port.proofs.Reading.{digit-more, digit-stop, digit-end, digits-over, worded}
 use Rattle.ecqf_port.proofs.words.numeral.Goals as goal

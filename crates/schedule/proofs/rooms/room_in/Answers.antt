@@ -1,8 +1,7 @@
-use Rattle.std.proofs.Common.{◌≡◌, ℕ, ◌*◌, ◌/◌, ◌≤◌, sym, refl, ap, ◌∙◌, mul-le-mul, arith}
+use Rattle.std.proofs.Common.{◌≡◌, ℕ, ◌*◌, ◌≤◌, mul-le-mul, arith}
 use Rattle.book.specs.Sets.{numbers_of}
 use Rattle.book.specs.Told.{SetNumbers, no_class}
 use Rattle.book.proofs.Legality.{settings-legal}
-use Rattle.schedule.specs.declared.rooms.Room.{Room}
 use Rattle.schedule.proofs.Needed.{class-found, class-lacking, found-room, few-bins, few-loads}
 use Rattle.schedule.proofs.rooms.room_in.Goals as goal
 

@@ -1,10 +1,9 @@
-use Rattle.std.proofs.Common.{◌≡◌, ℕ, ◌+◌, ◌-◌, ◌*◌, ◌<◌, sym, refl, ap, ◌∙◌, subst, arith}
+use Rattle.std.proofs.Common.{◌≡◌, ℕ, ◌+◌, ◌-◌, ◌<◌, refl, ap, ◌∙◌, arith}
 use Rattle.book.specs.Sets.{numbers_of}
 use Rattle.book.specs.Told.{SetNumbers, class_count}
 use Rattle.book.proofs.Legality.{settings-legal}
 use Rattle.schedule.specs.declared.rooms.Room.{Room}
 use Rattle.schedule.specs.Bins.{bins_before, most_loads, most_below}
-use Rattle.schedule.specs.Laws.{room_of}
 use Rattle.schedule.proofs.Needed.{bins-more, most-more}
 use Rattle.schedule.proofs.rooms.room_of.Goals as goal
 

@@ -1,9 +1,8 @@
-use Rattle.std.proofs.Common.{◌≡◌, Bool, true, false, ◌||◌, ltb, List, length, is_some, sym, refl, ap, ◌∙◌, ⊎_elim, arith}
+use Rattle.std.proofs.Common.{◌≡◌, true, false, ◌||◌, ltb, List, length, is_some, sym, ap, ◌∙◌, ⊎_elim}
 use Rattle.std.proofs.lemmas.List.{length-map}
 use Rattle.std.proofs.lemmas.Bool.{lt-ltb, le-ltb, or_left, or_right, or_from}
 use Rattle.book.specs.declared.rows.Row.{Row}
 use Rattle.book.specs.Ticks.{last_tick}
-use Rattle.book.specs.Rows.{settled}
 use Rattle.book.specs.Sets.{numbers_of}
 use Rattle.book.specs.Sums.{over_fault}
 use Rattle.book.specs.Books.{BookState, state_of}

@@ -1,9 +1,7 @@
-use Rattle.std.proofs.Common.{◌≡◌, ℕ, ◌<◌, ◌≤◌, length, set, is_some, Ok, sym, refl, ap, ◌∙◌, arith}
+use Rattle.std.proofs.Common.{◌≡◌, ℕ, ◌<◌, length, set, Ok, sym, ap, ◌∙◌, arith}
 use Rattle.std.proofs.lemmas.List.{length-set, get_or-set_same}
-use Rattle.book.specs.declared.faults.BookFault.{BookFault}
 use Rattle.book.specs.declared.rows.Row.{Row}
 use Rattle.book.specs.declared.rows.Row.TheVariants.{Free, Held}
-use Rattle.book.specs.Sets.{numbers_of}
 use Rattle.book.specs.Sums.{over_fault}
 use Rattle.book.specs.Books.{BookState, state_of, with_rows, held_by}
 use Rattle.book.proofs.Answering.{hold-lacks, hold-lengths, hold-state, hold-over, hold-taken, free-holding, lacks-not}

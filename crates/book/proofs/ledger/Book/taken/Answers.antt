@@ -1,4 +1,4 @@
-use Rattle.std.proofs.Common.{◌≡◌, arith}
+use Rattle.std.proofs.Common.{arith}
 use Rattle.book.specs.Sets.{numbers_of}
 use Rattle.book.proofs.Within.{within-from}
 use Rattle.book.proofs.ledger.Book.taken.Goals as goal

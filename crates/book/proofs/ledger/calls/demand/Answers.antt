@@ -1,4 +1,4 @@
-use Rattle.std.proofs.Common.{◌≡◌, ℕ, suc, ◌+◌, ◌*◌, ◌/◌, ◌<◌, ◌≤◌, sym, refl, ap, ◌∙◌, subst, mul-le-mul, add-one, arith, rules}
+use Rattle.std.proofs.Common.{◌≡◌, ℕ, suc, ◌+◌, ◌*◌, ◌/◌, ◌≤◌, subst, mul-le-mul, arith}
 use Rattle.book.specs.Sets.{numbers_of}
 use Rattle.book.specs.Told.{SetNumbers, cycle_of}
 use Rattle.book.specs.Rows.{booked}

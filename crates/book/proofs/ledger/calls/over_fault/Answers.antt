@@ -1,4 +1,4 @@
-use Rattle.std.proofs.Common.{◌≡◌, ℕ, ◌-◌, ◌<◌, ◌≤◌, Some, None, sym, refl, ap, ◌∙◌, subst, arith}
+use Rattle.std.proofs.Common.{◌≡◌, ℕ, ◌-◌, ◌<◌, ◌≤◌, Some, None, sym, ap, ◌∙◌, subst, arith}
 use Rattle.book.specs.declared.faults.BookFault.TheVariants.{Over}
 use Rattle.book.specs.Sets.{numbers_of}
 use Rattle.book.specs.Told.{SetNumbers, cycle_of, class_count}

@@ -1,7 +1,5 @@
-use Rattle.std.proofs.Common.{◌≡◌, ℕ, ◌<◌, ◌≤◌, true, false, List, length, take, is_some, Some, None, sym, refl, ap, ◌∙◌, arith}
-use Rattle.book.specs.declared.setup.Class.{Class}
-use Rattle.book.specs.declared.faults.BookFault.{BookFault}
-use Rattle.book.specs.Told.{SetNumbers, told, set_fault, in_number, within_limits, enough_bins}
+use Rattle.std.proofs.Common.{true, false, length, is_some, sym, refl, ap, ◌∙◌, arith}
+use Rattle.book.specs.Told.{SetNumbers, told, set_fault}
 use Rattle.book.proofs.Legality.{set_at, refused-not, legal-from, limits-from, cycles-fit, some-few, same-told}
 use Rattle.book.proofs.setup.Settings.check.Goals as goal
 

@@ -1,4 +1,4 @@
-use Rattle.std.proofs.Common.{◌≡◌, ℕ, ◌/◌, ◌≤◌, sym, ap, ◌∙◌, div-le_self, arith}
+use Rattle.std.proofs.Common.{◌≡◌, ℕ, ◌/◌, sym, ap, ◌∙◌, div-le_self, arith}
 use native.Mathlib.Nat.{div-zero}
 use Rattle.book.specs.Sets.{numbers_of}
 use Rattle.book.specs.Told.{SetNumbers, cycle_of}

@@ -1,5 +1,5 @@
-use Rattle.std.proofs.Common.{◌≡◌, true, get_or}
-use Rattle.book.specs.Told.{all_below, class_fits, phase_fits, serves, serves_all, no_class}
+use Rattle.std.proofs.Common.{◌≡◌, true}
+use Rattle.book.specs.Told.{all_below, class_fits}
 use Rattle.book.proofs.setup.check.classes_fit.Given as goal
 
 abbrev pub invariant-loop-c : goal.invariant-loop-c

@@ -1,4 +1,4 @@
-use Rattle.std.proofs.Common.{ℕ, Bool, get_or, sym, arith, rules}
+use Rattle.std.proofs.Common.{ℕ, get_or, sym}
 use Rattle.book.specs.Told.{serves_all, no_class}
 use Rattle.book.proofs.Below.{below_none, below_more, below_fails}
 use Rattle.book.proofs.setup.check.enough_bins.Goals as goal

@@ -1,5 +1,5 @@
 use Rattle.std.proofs.Common.{◌≡◌, true, get_or}
-use Rattle.book.specs.Told.{all_below, class_fits, phase_fits, serves, serves_all, no_class}
+use Rattle.book.specs.Told.{all_below, serves_all, no_class}
 use Rattle.book.proofs.setup.check.enough_bins.Given as goal
 
 abbrev pub invariant-loop-c : goal.invariant-loop-c

@@ -1,4 +1,4 @@
-use Rattle.std.proofs.Common.{ℕ, Bool, get_or, sym, arith}
+use Rattle.std.proofs.Common.{ℕ, get_or, sym, arith}
 use Rattle.book.specs.Told.{serves}
 use Rattle.book.proofs.Below.{below_none, below_more, below_fails}
 use Rattle.book.proofs.setup.check.serves_all.Goals as goal

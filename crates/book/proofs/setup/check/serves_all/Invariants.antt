@@ -1,5 +1,5 @@
 use Rattle.std.proofs.Common.{◌≡◌, true, get_or}
-use Rattle.book.specs.Told.{all_below, class_fits, phase_fits, serves, serves_all, no_class}
+use Rattle.book.specs.Told.{all_below, serves}
 use Rattle.book.proofs.setup.check.serves_all.Given as goal
 
 abbrev pub invariant-loop-i : goal.invariant-loop-i

@@ -1,12 +1,10 @@
-use Rattle.std.proofs.Common.{◌≡◌, ℕ, length, get_or, Some, None, vec_items, vec_len, Option, sym, ap, ◌∙◌, subst, arith, rules}
+use Rattle.std.proofs.Common.{◌≡◌, ℕ, length, get_or, Some, None, vec_items, sym, ap, ◌∙◌, arith, rules}
 use Rattle.std.specs.Option.{option_map}
-use Rattle.book.specs.declared.ledger.Note.{Note}
 use Rattle.book.specs.Books.{state_of, row_of, drop_of}
-use Rattle.ecqf.specs.Benches.{drop_done, said, said_of_note, spent, bench_of}
+use Rattle.ecqf.specs.Benches.{drop_done, said_of_note, spent, bench_of}
 use Rattle.ecqf.specs.Notes.{note_in}
 use Rattle.ecqf.proofs.Carrying.{done, missing}
 use Rattle.ecqf.proofs.bench.Bench.drop_note.Goals as goal
-use Rattle.book.specs.Rows.{dropped}
 use Rattle.ecqf.specs.declared.answers.Answer.TheVariants.{Free, NoNote}
 use Rattle.ecqf.proofs.Pairing.{Matching, matching-of, matching-all, drop-spent, spent-matching, dropped-unheld}
 

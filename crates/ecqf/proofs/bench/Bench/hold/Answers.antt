@@ -1,8 +1,7 @@
-use Rattle.std.proofs.Common.{◌≡◌, length, get_or, set, Some, None, vec_items, vec_len, Option, sym, ap, ◌∙◌, subst, arith, rules}
+use Rattle.std.proofs.Common.{◌≡◌, length, get_or, None, vec_items, sym, ap, ◌∙◌, rules}
 use Rattle.std.specs.Option.{option_map}
-use Rattle.book.specs.declared.ledger.Note.{Note}
-use Rattle.book.specs.Books.{BookState, state_of, hold_of}
-use Rattle.ecqf.specs.Benches.{hold_done, said, said_of_note, spent, bench_of}
+use Rattle.book.specs.Books.{state_of}
+use Rattle.ecqf.specs.Benches.{hold_done, said, bench_of}
 use Rattle.ecqf.specs.Notes.{note_in}
 use Rattle.ecqf.proofs.Carrying.{done, missing}
 use Rattle.ecqf.proofs.bench.Bench.hold.Goals as goal

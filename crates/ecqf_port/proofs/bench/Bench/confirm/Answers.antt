@@ -1,12 +1,10 @@
-use Rattle.std.proofs.Common.{◌≡◌, ℕ, length, get_or, Some, None, vec_items, vec_len, Option, sym, ap, ◌∙◌, subst, arith, rules}
+use Rattle.std.proofs.Common.{◌≡◌, ℕ, length, get_or, Some, None, vec_items, sym, ap, ◌∙◌, arith, rules}
 use Rattle.std.specs.Option.{option_map}
-use Rattle.book.specs.declared.ledger.Note.{Note}
 use Rattle.book.specs.Books.{state_of, row_of, confirm_of}
-use Rattle.ecqf_port.specs.Benches.{confirm_done, said, said_of_note, spent, bench_of}
+use Rattle.ecqf_port.specs.Benches.{confirm_done, said_of_note, spent, bench_of}
 use Rattle.ecqf_port.specs.Notes.{note_in}
 use Rattle.ecqf_port.proofs.Carrying.{done, missing}
 use Rattle.ecqf_port.proofs.bench.Bench.confirm.Goals as goal
-use Rattle.book.specs.Rows.{confirmed}
 use Rattle.ecqf_port.specs.declared.answers.Answer.TheVariants.{Live, NoNote}
 use Rattle.ecqf_port.proofs.Pairing.{Matching, matching-of, matching-all, confirm-spent, spent-matching, confirmed-unheld}
 

@@ -2,7 +2,7 @@ use Rattle.std.proofs.Common.{vec_items, sym, ap, ◌∙◌, rules}
 use Rattle.std.specs.Option.{option_map}
 use Rattle.book.specs.Books.{state_of}
 use Rattle.ecqf_port.specs.Notes.{note_in}
-use Rattle.ecqf_port.specs.Benches.{release_done, said, answered, bench_of}
+use Rattle.ecqf_port.specs.Benches.{release_done, said, bench_of}
 use Rattle.ecqf_port.specs.declared.answers.Answer.TheVariants.{LeavingUntil}
 use Rattle.ecqf_port.proofs.Pairing.{matching-of, matching-kept, release-kept, Matching}
 use Rattle.ecqf_port.proofs.Carrying.{done, missing}

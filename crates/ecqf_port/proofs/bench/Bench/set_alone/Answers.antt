@@ -1,4 +1,4 @@
-use Rattle.std.proofs.Common.{vec_items, sym, ◌∙◌, rules}
+use Rattle.std.proofs.Common.{vec_items, rules}
 use Rattle.book.specs.Sets.{numbers_of}
 use Rattle.book.specs.Books.{state_of}
 use Rattle.ecqf_port.specs.Benches.{bench_of}

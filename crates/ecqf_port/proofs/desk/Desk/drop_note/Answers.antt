@@ -1,5 +1,4 @@
 use Rattle.std.proofs.Common.{◌≡◌, ℕ, length, get_or, Some, None, vec_items, sym, refl, ap, ◌∙◌, arith, rules}
-use Rattle.book.specs.Rows.{dropped}
 use Rattle.book.specs.Books.{state_of, row_of, drop_of}
 use Rattle.ecqf_port.specs.declared.answers.Answer.TheVariants.{Free, NoNote}
 use Rattle.ecqf_port.specs.Notes.{note_in}
