@@ -1,4 +1,5 @@
-// The worked examples, as one table with one proof; and the tests of all crates, which would prove those a second time.
+// The worked examples of the book and the placers, as one table with one proof; and the tests of book, loads, racks and placers,
+// since tests in those crates would prove them a second time.
 #![tactic(auto)]
 
 ghost use Rattle.std.specs.Prelude.{◌≡◌, length};

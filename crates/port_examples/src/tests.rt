@@ -1,3 +1,3 @@
-// The tests of all crates, as tables of cases. Each refusal stands beside the nearest call that is accepted.
+// The tests of port and line, as tables of cases. Each refusal stands beside the nearest call that is accepted.
 mod lines;
 mod ports;
