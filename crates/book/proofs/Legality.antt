@@ -1,7 +1,7 @@
 -- The check of settings passes exactly those that keep the rules, read as facts.
-use Rattle.std.proofs.Common.{◌≡◌, ℕ, zero, suc, ◌+◌, ◌*◌, ◌/◌, ◌%◌, ◌<◌, ◌≤◌, Bool, true, false, not, ◌&&◌, eqb, leb, List, [], ◌∷◌, length, get_or, take, Some, None, Option, refl, ap, ◌∙◌, ⊎_elim, mul-le-mul_left, arith}
+use Rattle.std.proofs.Common.{◌≡◌, ℕ, zero, suc, ◌+◌, ◌*◌, ◌/◌, ◌%◌, ◌<◌, ◌≤◌, Bool, true, false, not, ◌&&◌, eqb, leb, List, [], ◌∷◌, get_or, take, Some, None, Option, refl, ap, ◌∙◌, ⊎_elim, mul-le-mul_left, arith}
 use native.Mathlib.Nat.{div-add-mod}
-use Rattle.std.proofs.lemmas.List.{get_or_past}
+use Rattle.std.proofs.lemmas.List.{get_or_past, take_all}
 use Rattle.std.proofs.lemmas.Bool.{cases_lt, and_parts, and_from, leb-true, ltb-true, eqb-true, le-leb, lt-ltb, eq-eqb}
 use Rattle.book.specs.declared.faults.BookFault.{BookFault}
 use Rattle.book.specs.declared.faults.BookFault.TheVariants.{NotInNumber, OutOfLimits, TooFewBins}
@@ -9,8 +9,9 @@ use Rattle.book.specs.declared.setup.Class.{Class}
 use Rattle.book.specs.Faults.{first_hit, check}
 use Rattle.book.specs.Ticks.{inside}
 use Rattle.book.specs.declared.setup.Settings.{Settings}
+use Rattle.book.specs.declared.setup.Setup.{Setup}
 use Rattle.book.specs.Sets.{numbers_of}
-use Rattle.book.specs.Told.{SetNumbers, told, set_fault, in_number, within_limits, enough_bins, all_below, class_fits, step_fits, phase_fits, serves, serves_all, whole_times, cycle_in, cycle_of, bins_in, bins_of, no_class, class_count, input_count, Legal}
+use Rattle.book.specs.Told.{SetNumbers, told, told_by, set_fault, in_number, within_limits, enough_bins, all_below, class_fits, step_fits, phase_fits, serves, serves_all, whole_times, cycle_in, cycle_of, bins_in, bins_of, no_class, class_count, input_count, Legal}
 use Rattle.book.proofs.Below.{below_each, below-from}
 use Rattle.book.proofs.Within.{none_from}
 
@@ -183,6 +184,14 @@ legal-passes s l = set_at s true true true numbers limits bins
 pub refused-not : (s : SetNumbers) (f : BookFault) → set_fault s ≡ Some f → Legal s → ⊥
 refused-not s f e l = let p = legal-passes s l in let z : ◌≡◌ {A = ℕ} 0 1 = cc in omega arith
 
+-- What a refusal and what is accepted say, from the three tests.
+pub refuses : (s : SetNumbers) (x y z : Bool) (f : BookFault) → in_number s ≡ x → within_limits s ≡ y → enough_bins s ≡ z
+    → set_from x y z ≡ Some f → (set_fault s ≡ Some f) × (Legal s → ⊥)
+refuses s x y z f p q r e = let h = set_at s x y z p q r ∙ e in (h, refused-not s f h)
+
+pub accepts : (s : SetNumbers) → in_number s ≡ true → within_limits s ≡ true → enough_bins s ≡ true → set_fault s ≡ None
+accepts s p q r = set_at s true true true p q r
+
 -- Settings that were checked keep the rules.
 pub settings-legal : (s : Settings) → Legal (numbers_of s)
 settings-legal s = legal-from (numbers_of s) (none_from (set_fault (numbers_of s)) s.passed)
@@ -191,8 +200,10 @@ settings-legal s = legal-from (numbers_of s) (none_from (set_fault (numbers_of s
 pub cycle-most : (s : SetNumbers) → Legal s → (c : ℕ) → cycle_of s c ≤ 1048576
 cycle-most s l c = ⊎_elim (λ h. l.most c h) (λ h. let e = ap (λ (k : Class). k.cycle) (get_or_past s.classes c no_class h) in omega arith) (cases_lt c (class_count s))
 
--- Arrays whose front is what was told.
-pub same-told : (n d z : ℕ) (cs : List Class) (ps : List ℕ) (xs : List Class) (ys : List ℕ) → take (length cs) xs ≡ cs → take (length ps) ys ≡ ps
-    → told n d z (take (length cs) xs) (take (length ps) ys) ≡ told n d z cs ps
-same-told n d z cs ps xs ys p q =
-    ap (λ (v : List Class). told n d z v (take (length ps) ys)) p ∙ ap (λ (v : List ℕ). told n d z cs v) q
+-- As many items as are told are kept.
+pub same-told : (t : Setup) (xs : List Class) (ys : List ℕ) → in_number (told_by t) ≡ true → xs ≡ take 4 t.classes.now → ys ≡ take 8 t.phases.now
+    → told t.number t.delay t.dead_time xs ys ≡ told_by t
+same-told t xs ys h p q =
+    let few = some-few (told_by t) h in
+    ap (λ (v : List Class). told t.number t.delay t.dead_time v ys) (p ∙ take_all 4 t.classes.now few.four_classes)
+    ∙ ap (λ (v : List ℕ). told t.number t.delay t.dead_time t.classes.now v) (q ∙ take_all 8 t.phases.now few.eight_inputs)

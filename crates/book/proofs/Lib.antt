@@ -4,7 +4,6 @@ pub mod Fronts
 pub mod Legality
 pub mod Within
 pub mod Sums
-pub mod Mapped
 pub mod Answering
 pub mod Steps
 pub mod Sound

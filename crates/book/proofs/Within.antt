@@ -188,6 +188,8 @@ pub over-settled : (s : SetNumbers) (t : ℕ) (rows : List Row) → is_some (ove
     → is_some (over_fault s (map (settled s t) rows)) ≡ false
 over-settled s t rows = over-less s rows (map (settled s t) rows) (booked-map (settled s t) (settled-books s t) rows) (class_count s)
 
+pub ruleset keeps = (over-confirmed, over-dropped, over-released)
+
 -- A new book is within: the cycles grow from the first on, and that has room for the longest frame beside the dead time.
 pub cycles-grow : (s : SetNumbers) → Legal s → (c : ℕ) → c < class_count s → cycle_of s 0 ≤ cycle_of s c
 cycles-grow s h zero l = omega arith

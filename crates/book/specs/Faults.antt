@@ -1,5 +1,5 @@
 -- Refusals: their numbers and values, and the order in which checks answer.
-use Rattle.std.specs.Prelude.{ℕ, Bool, cond, List, [], ◌∷◌, Some, None, Option}
+use Rattle.std.specs.Prelude.{ℕ, Bool, cond, List, [], ◌∷◌, Some, None, Ok, Err, Option, Result}
 use Rattle.book.specs.declared.faults.BookFault.{BookFault}
 use Rattle.book.specs.declared.faults.BookFault.TheVariants.{NotInNumber, OutOfLimits, TooFewBins, NotThere, BadLengths, WrongState, Over, BadUntil}
 
@@ -42,3 +42,12 @@ check h f = record { hit = h; fault = f }
 abbrev pub or_else : Option BookFault → Option BookFault → Option BookFault
 or_else (Some f) o = Some f
 or_else None o = o
+
+-- The fault that was found, or nothing; and a value, or the fault for want of one.
+abbrev pub unless : Option BookFault → Result (Unit {0}) BookFault
+unless (Some f) = Err f
+unless None = Ok tt
+
+abbrev pub or_fault : {X : Type 0} → Option X → BookFault → Result X BookFault
+or_fault (Some x) f = Ok x
+or_fault None f = Err f

@@ -1,5 +1,6 @@
 pub mod Faults
 pub mod Ticks
+pub mod Few
 pub mod Told
 pub mod Sets
 pub mod Rows

@@ -1,8 +1,11 @@
 -- The rows of a book, and what each call makes of a row.
-use Rattle.std.specs.Prelude.{ℕ, ◌+◌, Bool, true, false, cond, ◌&&◌, List, [], ◌∷◌, Some, None, Option, ◌==◌, nat_le}
+use Rattle.std.specs.Prelude.{ℕ, ◌+◌, Bool, true, false, cond, ◌&&◌, List, [], ◌∷◌, Some, None, Ok, Err, Option, Result, ◌==◌, nat_le}
+use Rattle.book.specs.declared.faults.BookFault.{BookFault}
+use Rattle.book.specs.declared.faults.BookFault.TheVariants.{WrongState}
 use Rattle.book.specs.declared.rows.Booking.{Booking}
 use Rattle.book.specs.declared.rows.Row.{Row}
 use Rattle.book.specs.declared.rows.Row.TheVariants.{Free, Held, Live, Leaving}
+use Rattle.book.specs.Faults.{or_fault}
 use Rattle.book.specs.Ticks.{inside, cycle_at}
 use Rattle.book.specs.Told.{SetNumbers, cycle_of, bins_of}
 
@@ -28,12 +31,28 @@ is_live (Held b) = false
 is_live (Live b) = true
 is_live (Leaving b q) = false
 
+-- What a row holds, if it is held, and what it has live, if it is live.
+abbrev pub held_in : Row → Option Booking
+held_in Free = None
+held_in (Held b) = Some b
+held_in (Live b) = None
+held_in (Leaving b q) = None
+
+abbrev pub live_in : Row → Option Booking
+live_in Free = None
+live_in (Held b) = None
+live_in (Live b) = Some b
+live_in (Leaving b q) = None
+
 -- Hold turns a free row to held.
 abbrev pub holding : Booking → Row → Row
 holding b Free = Held b
 holding b (Held a) = Held a
 holding b (Live a) = Live a
 holding b (Leaving a q) = Leaving a q
+
+abbrev pub held_answer : Row → Result (Unit {0}) BookFault
+held_answer r = cond (is_free r) (Ok tt) (Err WrongState)
 
 -- Confirm makes a held row live, and drop frees it.
 abbrev pub confirmed : Row → Row
@@ -64,6 +83,9 @@ releasing s t Free = None
 releasing s t (Held b) = None
 releasing s t (Live b) = Some (leaves_at s t b)
 releasing s t (Leaving b q) = None
+
+abbrev pub released_answer : SetNumbers → (clock : ℕ) → Row → Result ℕ BookFault
+released_answer s t r = or_fault (releasing s t r) WrongState
 
 -- A leaving row is free once the cycle that it names is current or past.
 abbrev pub settled : SetNumbers → (clock : ℕ) → Row → Row

@@ -1,12 +1,13 @@
 -- Checked settings as plain values.
-use Rattle.std.specs.Prelude.{◌≡◌, ℕ, cond, List, length, take, Some, None, Ok, Err, Option, Result, nat_lt, slice_index_or}
+use Rattle.std.specs.Prelude.{◌≡◌, ℕ, cond, List, length, Some, None, Ok, Err, Option, Result, nat_lt, slice_index_or}
 use Rattle.book.specs.declared.faults.BookFault.{BookFault}
 use Rattle.book.specs.declared.setup.Class.{Class}
 use Rattle.book.specs.declared.setup.Settings.{Settings}
+use Rattle.book.specs.Few.{items_of}
 use Rattle.book.specs.Told.{SetNumbers, told, set_fault, no_class, Legal}
 
 abbrev pub numbers_of : Settings → SetNumbers
-numbers_of s = told s.number s.delay s.dead_time (take s.class_count s.classes) (take s.input_count s.phases)
+numbers_of s = told s.number s.delay s.dead_time (items_of s.classes) (items_of s.phases)
 
 -- What stands at a place of a list, if it is there; d is never seen.
 abbrev pub placed : {X : Type 0} → List X → ℕ → X → Option X

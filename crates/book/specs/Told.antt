@@ -1,8 +1,9 @@
 -- What set is told, and the rules for it.
-use Rattle.std.specs.Prelude.{◌≡◌, ℕ, zero, suc, ◌+◌, ◌-◌, ◌*◌, ◌/◌, ◌%◌, ◌<◌, ◌≤◌, Bool, true, not, ◌&&◌, List, [], ◌∷◌, length, get_or, Option, ◌==◌, nat_le, nat_lt, slice_index, slice_index_or}
+use Rattle.std.specs.Prelude.{◌≡◌, ℕ, zero, suc, ◌+◌, ◌-◌, ◌*◌, ◌/◌, ◌%◌, ◌<◌, ◌≤◌, Bool, true, not, ◌&&◌, List, [], ◌∷◌, length, get_or, Some, None, Option, ◌==◌, nat_le, nat_lt, slice_index, slice_index_or}
 use Rattle.book.specs.declared.faults.BookFault.{BookFault}
 use Rattle.book.specs.declared.faults.BookFault.TheVariants.{NotInNumber, OutOfLimits, TooFewBins}
 use Rattle.book.specs.declared.setup.Class.{Class}
+use Rattle.book.specs.declared.setup.Setup.{Setup}
 use Rattle.book.specs.Faults.{first_hit, check}
 use Rattle.book.specs.Ticks.{inside, shift, bins_needed}
 
@@ -17,6 +18,9 @@ pub record SetNumbers : Type 0 where
 
 abbrev pub told : (number delay dead_time : ℕ) → List Class → List ℕ → SetNumbers
 told n d z cs ps = record { number = n; delay = d; dead_time = z; classes = cs; phases = ps }
+
+abbrev pub told_by : Setup → SetNumbers
+told_by s = told s.number s.delay s.dead_time s.classes.now s.phases.now
 
 abbrev pub no_class : Class
 no_class = record { cycle = 0; bins = 0 }
@@ -64,6 +68,11 @@ whole_times before cycle = cycle % before == 0 && inside 2 64 (cycle / before)
 abbrev pub step_fits : List Class → ℕ → Bool
 step_fits cs zero = nat_le 2000 (cycle_in cs 0)
 step_fits cs (suc c) = whole_times (cycle_in cs c) (cycle_in cs (suc c))
+
+-- The same by the cycle before, if there is one.
+abbrev pub step_after : Option ℕ → (cycle : ℕ) → Bool
+step_after None c = nat_le 2000 c
+step_after (Some before) c = whole_times before c
 
 abbrev pub class_fits : List Class → ℕ → Bool
 class_fits cs c = nat_le (cycle_in cs c) 1048576 && inside 2 8 (bins_in cs c) && step_fits cs c

@@ -1,13 +1,15 @@
 // The book of a port: its settings, its clock and the rows of its streams.
-ghost use Rattle.std.specs.Prelude.{◌≡◌, ◌≤◌, false, length, is_some};
+ghost use Rattle.std.specs.Prelude.{◌≡◌, ◌≤◌, false, is_some};
 ghost use Rattle.book.specs.Sums.{over_fault};
 ghost use Rattle.book.specs.Sets.{numbers_of};
 
-use crate::rows::Row;
+use crate::rows::{Row, STREAMS};
 use crate::setup::Settings;
 
+pub mod booked;
 mod calls;
 mod reading;
+mod sums;
 
 // What hold gives: the right to confirm or drop that stream's hold in the book of that number, once.
 // It cannot be copied or let go; only confirm and drop_hold take it.
@@ -20,8 +22,7 @@ pub struct Note {
 pub struct Book {
     settings: Settings,
     clock: u64,
-    rows: [Row; 128],
-    ghost full: { length rows ≡ 128 },
+    rows: [Row; STREAMS],
     ghost timely: { clock ≤ 1099511627775 },
     ghost within: { is_some (over_fault (numbers_of settings) rows) ≡ false },
 }

@@ -2,6 +2,7 @@
 #![tactic(auto)]
 
 pub mod faults;
+pub mod frames;
 pub mod ledger;
 pub mod rows;
 pub mod setup;

@@ -1,8 +1,15 @@
-ghost use Rattle.std.specs.Prelude.{◌≡◌, ◌*◌, ◌≤◌, Bool, map, length};
-ghost use Rattle.book.specs.Rows.{is_free, is_held, octets_in, octets, booked, fits, holding, confirmed, dropped, releasing, released, settled};
+ghost use Rattle.std.specs.Prelude.{◌≡◌, ◌*◌, ◌≤◌, map};
+ghost use Rattle.book.specs.Rows.{held_in, live_in, octets_in, octets, booked, fits, held_answer, holding, confirmed, dropped, released_answer, released, settled};
 ghost use Rattle.book.specs.Sets.{numbers_of};
 
+use crate::faults::BookFault;
+use crate::frames;
 use crate::setup::Settings;
+
+// The streams of a book, numbered from 0.
+pub const STREAMS: usize = 128;
+
+pub const LAST_STREAM: u8 = 127;
 
 // What a stream has reserved: its input, its class, its longest frame, and its wire octets per cycle of the class.
 #[derive(Clone, Copy, PartialEq, Eq, Debug)]
@@ -27,7 +34,9 @@ impl Booking {
     pub(crate) fn fits(&self) -> bool
         ensures { result ≡ fits self.now }
     {
-        64 <= self.longest && self.longest <= 1_522 && u32::from(self.longest) + 20 <= self.quota
+        frames::SHORTEST <= self.longest
+            && self.longest <= frames::LONGEST
+            && frames::wire_octets(self.longest) <= self.quota
     }
 
     fn octets(&self, class: u8) -> u32
@@ -38,56 +47,60 @@ impl Booking {
 }
 
 impl Row {
-    pub(crate) fn is_held(&self) -> bool
-        ensures { result ≡ is_held self.now }
+    // The booking of a row that is held.
+    pub fn held(&self) -> Option<Booking>
+        ensures { result ≡ held_in self.now }
     {
         match self {
-            Row::Held(_) => true,
-            _ => false,
+            Row::Held(booking) => Some(*booking),
+            _ => None,
+        }
+    }
+
+    // The booking of a row that is live.
+    pub fn live(&self) -> Option<Booking>
+        ensures { result ≡ live_in self.now }
+    {
+        match self {
+            Row::Live(booking) => Some(*booking),
+            _ => None,
         }
     }
 
     // Each call changes the row from the one state that it starts from, and leaves it in every other.
-    // Hold answers whether the row was free.
-    pub(crate) fn hold(&mut self, booking: Booking) -> bool
-        ensures answer { result ≡ is_free self.old }
+    pub(crate) fn hold(&mut self, booking: Booking) -> Result<(), BookFault>
+        ensures answer { result ≡ held_answer self.old }
         ensures next { self.new ≡ holding booking self.old }
     {
         match self {
             Row::Free => {
                 *self = Row::Held(booking);
-                true
+                Ok(())
             }
-            _ => false,
+            _ => Err(BookFault::WrongState),
         }
     }
 
     pub(crate) fn confirm(&mut self)
         ensures { self.new ≡ confirmed self.old }
     {
-        match self {
-            Row::Held(booking) => {
-                *self = Row::Live(*booking);
-            }
-            _ => {}
+        if let Row::Held(booking) = self {
+            *self = Row::Live(*booking);
         }
     }
 
     pub(crate) fn drop_hold(&mut self)
         ensures { self.new ≡ dropped self.old }
     {
-        match self {
-            Row::Held(_) => {
-                *self = Row::Free;
-            }
-            _ => {}
+        if let Row::Held(_) = self {
+            *self = Row::Free;
         }
     }
 
     // Answers the cycle from whose start on the row is free: as many cycles from now as its class has bins.
-    pub(crate) fn release(&mut self, settings: &Settings, clock: u64) -> Option<u64>
+    pub(crate) fn release(&mut self, settings: &Settings, clock: u64) -> Result<u64, BookFault>
         requires { clock ≤ 1099511627775 }
-        ensures answer { result ≡ releasing (numbers_of settings.now) clock self.old }
+        ensures answer { result ≡ released_answer (numbers_of settings.now) clock self.old }
         ensures next { self.new ≡ released (numbers_of settings.now) clock self.old }
     {
         match self {
@@ -95,9 +108,9 @@ impl Row {
                 let until = settings.cycle_at(booking.class, clock)
                     + u64::from(settings.bins(booking.class));
                 *self = Row::Leaving(*booking, until);
-                Some(until)
+                Ok(until)
             }
-            _ => None,
+            _ => Err(BookFault::WrongState),
         }
     }
 
@@ -126,8 +139,8 @@ impl Row {
 }
 
 // The booked octets of a class: the sum of the quotas of its rows that are not free.
-pub(crate) fn booked(rows: &[Row], class: u8) -> u64
-    requires { length rows.now ≤ 128 }
+#[tactic(auto, unfolding(crate::specs::Rows::booked))]
+pub(crate) fn booked(rows: &[Row; STREAMS], class: u8) -> u64
     ensures sum { result ≡ booked class rows.now }
     ensures bound { result ≤ 128 * 4294967295 }
 {
@@ -139,7 +152,7 @@ pub(crate) fn booked(rows: &[Row], class: u8) -> u64
 }
 
 // Cycles have started up to this clock, for every row.
-pub(crate) fn start_cycles(rows: &mut [Row], settings: &Settings, clock: u64)
+pub(crate) fn start_cycles(rows: &mut [Row; STREAMS], settings: &Settings, clock: u64)
     ensures { rows.new ≡ map (settled (numbers_of settings.now) clock) rows.old }
 {
     for row in rows.iter_mut() {

@@ -1,4 +1,4 @@
-ghost use Rattle.std.specs.Prelude.{◌≡◌, ℕ, ◌+◌, ◌-◌, ◌*◌, ◌^◌, ◌<◌, ◌≤◌, Bool, ◌&&◌, IfOk, nat_le};
+ghost use Rattle.std.specs.Prelude.{◌≡◌, ℕ, ◌+◌, ◌-◌, ◌*◌, ◌^◌, ◌<◌, ◌≤◌, Bool, ◌&&◌, IfOk};
 ghost use Rattle.book.specs.Ticks.{shift, bins_answer, Fewest};
 
 use crate::faults::BookFault;
@@ -12,19 +12,12 @@ pub const LONGEST_CYCLE: u32 = 1_048_576;
 // The longest hand-over delay that can be set.
 pub const LONGEST_DELAY: u32 = 65_535;
 
-// A number between two limits, both included.
-pub(crate) fn inside(low: u32, high: u32, x: u32) -> bool
-    ensures { result ≡ (nat_le low x && nat_le x high) }
-{
-    low <= x && x <= high
-}
-
 // How many cycles after its input cycle a frame leaves: late enough for the last hand-over.
-pub(crate) fn shift(delay: u32, cycle: u32, phase: u32) -> u32
-    requires { (0 < cycle) × (phase + delay + cycle < 2 ^ 32) }
+pub fn shift(delay: u32, cycle: u32, phase: u32) -> u64
     ensures { result ≡ shift delay cycle phase }
 {
-    1 + (phase + delay + (cycle - 1)) / cycle
+    let last = u64::from(phase) + u64::from(delay) + u64::from(cycle.saturating_sub(1));
+    1 + last.checked_div(u64::from(cycle)).unwrap_or(0)
 }
 
 // The bins that a class needs for an input: one more than the shift.
@@ -32,8 +25,11 @@ pub fn bins_needed(delay: u32, cycle: u32, phase: u32) -> Result<u32, BookFault>
     ensures answer { result ≡ bins_answer delay cycle phase }
     ensures fewest { IfOk result (λ bins. Fewest delay cycle phase bins) }
 {
-    if delay > LONGEST_DELAY || !inside(SHORTEST_CYCLE, LONGEST_CYCLE, cycle) || phase >= cycle {
+    if delay > LONGEST_DELAY
+        || !(SHORTEST_CYCLE..=LONGEST_CYCLE).contains(&cycle)
+        || phase >= cycle
+    {
         return Err(BookFault::OutOfLimits);
     }
-    Ok(shift(delay, cycle, phase) + 1)
+    Ok(shift(delay, cycle, phase) as u32 + 1)
 }

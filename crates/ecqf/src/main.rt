@@ -1,61 +1,56 @@
 // Reads a script from standard input, makes the calls that it names on a book, and prints what each answered.
 #![tactic(auto)]
 
-use crate::answers::Answer;
-use crate::bench::Bench;
-use crate::printing::Page;
-use crate::script::Line;
+use scripting::answers::Done;
+use scripting::bench::Bench;
+use scripting::printing::{Page, Shown};
+use scripting::script;
+use scripting::script::{Command, NotUnderstood};
 use std::alloc::Global;
 use std::io;
-use std::io::{BufRead, BufReader, Stdin};
+use std::io::{BufRead, BufReader, BufWriter, Stdin, Stdout};
 
-mod answers;
-mod bench;
-mod printing;
-mod script;
-mod words;
-
-// The line without its line break.
-fn without_break(line: &[u8]) -> &[u8] {
-    match line {
-        [front @ .., b'\n'] => front,
-        _ => line,
-    }
-}
-
-// Carries one line out, and answers whether it was understood.
-fn run_line(bench: &mut Bench, page: &mut Page, line: &[u8]) -> bool {
-    match script::parse(line) {
-        Line::Silent => true,
-        Line::NotUnderstood => {
-            page.echo(line);
-            page.text(b"not understood\n");
-            false
+// Carries one line out, and prints what it answers.
+fn run_line(
+    bench: &mut Bench,
+    page: &mut Page<BufWriter<Stdout>>,
+    line: &[u8],
+) -> Result<(), NotUnderstood> {
+    let Some(command) = script::parse::<Command>(line)? else {
+        return Ok(());
+    };
+    match bench.carry_out(command) {
+        Ok(Done::Set { dropped }) => {
+            page.dropped(&dropped);
+            page.line(line, Done::Set { dropped });
         }
-        Line::Does(command) => {
-            let answer = bench.carry_out(command);
-            if let Answer::Set { dropped } = &answer {
-                page.dropped(dropped);
-            }
-            page.echo(line);
-            page.answer(&answer, bench.book());
-            page.text(b"\n");
-            true
-        }
+        Ok(Done::Shown) => page.line(line, Shown(bench.book())),
+        Ok(done) => page.line(line, done),
+        Err(refusal) => page.line(line, refusal),
     }
+    Ok(())
 }
 
 // Runs a script to its end, and answers whether every line was understood.
-fn run(heap: Global, input: Stdin, bench: &mut Bench, page: &mut Page) -> io::Result<bool> {
+fn run(
+    heap: Global,
+    input: Stdin,
+    bench: &mut Bench,
+    page: &mut Page<BufWriter<Stdout>>,
+) -> io::Result<bool> {
     let mut input = BufReader::new(heap, input)?;
     let mut line = Vec::new(heap);
     let mut understood = true;
+    // A loop that reads counts its turns, since every loop has a bound.
     for _ in 0..u64::MAX {
         line.clear();
         if input.read_until(b'\n', &mut line)? == 0 || page.has_failed() {
             break;
         }
-        if !run_line(bench, page, without_break(line.as_slice())) {
+        let line = line.as_slice();
+        let line = line.strip_suffix(b"\n").unwrap_or(line);
+        if let Err(error) = run_line(bench, page, line) {
+            page.line(line, error);
             understood = false;
         }
     }
@@ -63,7 +58,7 @@ fn run(heap: Global, input: Stdin, bench: &mut Bench, page: &mut Page) -> io::Re
 }
 
 fn main(rt: HostRuntime) -> io::Result<()> {
-    let mut page = Page::new(rt.alloc(), rt.stdout())?;
+    let mut page = Page::over(BufWriter::new(rt.alloc(), rt.stdout())?);
     let mut bench = Bench::new(rt.alloc())?;
     let ran = run(rt.alloc(), rt.stdin(), &mut bench, &mut page);
     // Whatever came, the notes in hand are dropped, and what was printed is written.

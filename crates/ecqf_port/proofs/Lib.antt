@@ -1,3 +1,1 @@
-pub mod Reading
-pub mod Pairing
-pub mod Carrying
+pub mod Running

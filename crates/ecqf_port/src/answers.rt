@@ -1,55 +1,65 @@
-// What a command answers.
+// What a command answers: what was done, or why it was not.
 ghost use Rattle.std.specs.Prelude.{◌≡◌};
-ghost use Rattle.ecqf_port.specs.Freed.{is_freed};
+ghost use Rattle.ecqf_port.specs.declared.answers.Refusal.TheVariants.{Book, Rack, Port, NoMemory};
 
-use crate::kinds::{PlacerKind, RackChoice};
-use book::faults::BookFault;
+use crate::kinds::Asked;
 use racks::faults::RackFault;
 use schedule::faults::PortFault;
+use scripting::answers::{Done as BookDone, Refusal as BookRefusal};
+use std::alloc::AllocError;
 
 #[derive(Clone, Copy)]
-pub enum Answer {
-    Noted,
-    // A book was set; the notes of these streams were dropped for it.
-    Set {
-        dropped: [bool; 128],
-    },
-    // A port is to be set over these; whoever carries the script out makes it.
-    SetPort {
-        rack: RackChoice,
-        placer: PlacerKind,
-    },
-    Held,
-    Live,
-    Free,
-    LeavingUntil(u64),
-    Clock(u64),
-    Bins(u32),
-    Shown,
+pub enum Done {
+    // What is done on a book alone, and on whatever has a book.
+    Book(BookDone),
+    // A port is to be set as asked; whoever carries the script out makes it.
+    SetPort(Asked),
     Cycle(u64),
     TakenUntil(u64),
+}
+
+#[derive(Clone, Copy)]
+pub enum Refusal {
+    Book(BookRefusal),
+    Rack(RackFault),
+    Port(PortFault),
     PortRuns,
-    Refused(BookFault),
-    RefusedPort(PortFault),
-    RefusedRack(RackFault),
     // One of a rack and a placer is named, but not the other.
     NotUnderstood,
-    NoNote,
-    NothingSet,
     // A book stands alone.
     NoPort,
     // Memory is wanting, and nothing was done.
     NoMemory,
 }
 
-impl Answer {
-    // Whether a note was dropped.
-    pub(crate) fn is_free(&self) -> bool
-        ensures { result ≡ is_freed self.now }
-    {
-        match self {
-            Answer::Free => true,
-            _ => false,
-        }
+impl From<BookRefusal> for Refusal {
+    ghost from_gives = { λ f r. r ≡ Book f };
+
+    fn from(refusal: BookRefusal) -> Refusal {
+        Refusal::Book(refusal)
+    }
+}
+
+impl From<RackFault> for Refusal {
+    ghost from_gives = { λ f r. r ≡ Rack f };
+
+    fn from(fault: RackFault) -> Refusal {
+        Refusal::Rack(fault)
+    }
+}
+
+impl From<PortFault> for Refusal {
+    ghost from_gives = { λ f r. r ≡ Port f };
+
+    fn from(fault: PortFault) -> Refusal {
+        Refusal::Port(fault)
+    }
+}
+
+impl From<AllocError> for Refusal {
+    ghost from_gives = { λ f r. r ≡ NoMemory };
+
+    fn from(_error: AllocError) -> Refusal {
+        Refusal::NoMemory
     }
 }

@@ -12,14 +12,6 @@ pub(crate) struct Lines {
     understood: bool,
 }
 
-// The line without its line break.
-fn without_break(line: &[u8]) -> &[u8] {
-    match line {
-        [front @ .., b'\n'] => front,
-        _ => line,
-    }
-}
-
 impl Lines {
     pub(crate) fn new(heap: Global, input: Stdin) -> io::Result<Lines> {
         Ok(Lines {
@@ -42,8 +34,10 @@ impl Lines {
         }
     }
 
+    // The line without its line break.
     pub(crate) fn line(&self) -> &[u8] {
-        without_break(self.line.as_slice())
+        let line = self.line.as_slice();
+        line.strip_suffix(b"\n").unwrap_or(line)
     }
 
     // The line was not understood.

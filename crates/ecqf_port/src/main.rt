@@ -3,25 +3,23 @@
 
 use crate::bench::Bench;
 use crate::lines::Lines;
-use crate::printing::Page;
 use crate::serving::Session;
+use scripting::printing::Page;
 use std::io;
+use std::io::BufWriter;
 
 mod answers;
 mod bench;
-mod desk;
 mod kinds;
 mod lines;
 mod printing;
 mod ready;
 mod script;
 mod serving;
-mod slots;
-mod words;
 
 fn main(rt: HostRuntime) -> io::Result<()> {
     let lines = Lines::new(rt.alloc(), rt.stdin())?;
-    let page = Page::new(rt.alloc(), rt.stdout())?;
+    let page = Page::over(BufWriter::new(rt.alloc(), rt.stdout())?);
     let bench = Bench::new(rt.alloc())?;
     let mut session = Session {
         heap: rt.alloc(),
@@ -29,7 +27,7 @@ fn main(rt: HostRuntime) -> io::Result<()> {
         lines,
         page,
     };
-    serving::run(&mut session);
+    session.run();
     let Session {
         heap: _,
         bench,

@@ -2,30 +2,21 @@
 ghost use Rattle.std.specs.Prelude.{◌≡◌};
 ghost use Rattle.ecqf_port.specs.Kinds.{places_of};
 
-use crate::answers::Answer;
+use crate::answers::Refusal;
 use crate::bench::Bench;
-use crate::kinds::{PlacerKind, RackChoice, RackKind};
-use crate::slots::Blank;
+use crate::kinds::{Asked, PlacerKind, RackChoice, RackKind};
 use loads::marks::Mark;
 use placers::by_count::ByCount;
 use placers::by_time::ByTime;
 use placers::placer::Placer;
 use port::plan::Plan;
 use racks::cells::CellSlots;
-use racks::plan::{Plan as RackPlan, check_cells, check_rows};
+use racks::plan::{Numbers, Plan as RackPlan, check_cells, check_rows};
 use racks::rack::Rack;
 use racks::rows::RowSlots;
 use racks::store::Store;
+use scripting::notes::Blank;
 use std::alloc::{AllocError, Global};
-
-// What a set asks for.
-#[derive(Clone, Copy)]
-pub(crate) struct Asked {
-    pub(crate) rack: RackChoice,
-    pub(crate) placer: PlacerKind,
-    pub(crate) delay: u32,
-    pub(crate) dead_time: u32,
-}
 
 // The places of a rack, for cells the numbers of next places, and the places of the notes.
 pub(crate) struct Memory {
@@ -52,9 +43,10 @@ pub(crate) struct Ready {
 fn places_of(rack: RackChoice) -> (usize, usize)
     ensures { result ≡ places_of rack }
 {
+    let Numbers { bins, depth, total } = rack.numbers;
     match rack.kind {
-        RackKind::Rows => ((u64::from(rack.bins) * u64::from(rack.depth)) as usize, 0),
-        RackKind::Cells => (rack.total as usize, rack.total as usize),
+        RackKind::Rows => ((u64::from(bins) * u64::from(depth)) as usize, 0),
+        RackKind::Cells => (total as usize, total as usize),
     }
 }
 
@@ -71,7 +63,7 @@ impl Memory {
         })
     }
 
-    pub(crate) fn end(self) {
+    fn end(self) {
         let Memory {
             places: _,
             next: _,
@@ -79,82 +71,64 @@ impl Memory {
         } = self;
         blank.end();
     }
+
+    // The plans of a rack over these places and of a port over it. They use up what was named.
+    fn plans<P: Placer>(
+        &mut self,
+        bench: &mut Bench,
+        asked: Asked,
+        placer: &P,
+    ) -> Result<Plans, Refusal> {
+        let RackChoice { kind, numbers } = asked.rack;
+        let places = self.places.as_mut_slice();
+        match kind {
+            RackKind::Rows => {
+                let rack = check_rows(numbers, places)?;
+                let mut slots = RowSlots::make(rack);
+                let store = Store::over(places, &mut slots);
+                port_plan(bench, asked, rack, &store, placer)
+            }
+            RackKind::Cells => {
+                let next = self.next.as_mut_slice();
+                let rack = check_cells(numbers, places, next)?;
+                let mut slots = CellSlots::make(rack, next);
+                let store = Store::over(places, &mut slots);
+                port_plan(bench, asked, rack, &store, placer)
+            }
+        }
+    }
+}
+
+impl Ready {
+    // Gives the memory back.
+    pub(crate) fn end(self) {
+        let Ready {
+            kind: _,
+            placer: _,
+            plans: _,
+            memory,
+        } = self;
+        memory.end();
+    }
 }
 
 fn port_plan<R: Rack, P: Placer>(
     bench: &mut Bench,
     asked: Asked,
-    plan: RackPlan,
-    rack: &R,
+    rack: RackPlan,
+    store: &R,
     placer: &P,
-) -> Result<Plans, Answer> {
-    match bench.plan_port(asked.delay, asked.dead_time, rack, placer) {
-        Ok(port) => Ok(Plans { rack: plan, port }),
-        Err(fault) => Err(Answer::RefusedPort(fault)),
-    }
-}
-
-fn rows_plan<P: Placer>(
-    bench: &mut Bench,
-    asked: Asked,
-    places: &mut [Mark],
-    placer: &P,
-) -> Result<Plans, Answer> {
-    let rack = asked.rack;
-    match check_rows(rack.bins, rack.depth, rack.total, places) {
-        Ok(plan) => {
-            let mut slots = RowSlots::make(plan);
-            let store = Store::over(places, &mut slots);
-            port_plan(bench, asked, plan, &store, placer)
-        }
-        Err(fault) => Err(Answer::RefusedRack(fault)),
-    }
-}
-
-fn cells_plan<P: Placer>(
-    bench: &mut Bench,
-    asked: Asked,
-    places: &mut [Mark],
-    next: &mut [u32],
-    placer: &P,
-) -> Result<Plans, Answer> {
-    let rack = asked.rack;
-    match check_cells(rack.bins, rack.depth, rack.total, places, next) {
-        Ok(plan) => {
-            let mut slots = CellSlots::make(plan, next);
-            let store = Store::over(places, &mut slots);
-            port_plan(bench, asked, plan, &store, placer)
-        }
-        Err(fault) => Err(Answer::RefusedRack(fault)),
-    }
-}
-
-fn plans_over<P: Placer>(
-    bench: &mut Bench,
-    asked: Asked,
-    memory: &mut Memory,
-    placer: &P,
-) -> Result<Plans, Answer> {
-    match asked.rack.kind {
-        RackKind::Rows => rows_plan(bench, asked, memory.places.as_mut_slice(), placer),
-        RackKind::Cells => cells_plan(
-            bench,
-            asked,
-            memory.places.as_mut_slice(),
-            memory.next.as_mut_slice(),
-            placer,
-        ),
-    }
+) -> Result<Plans, Refusal> {
+    let port = bench.plan_port(asked.delay, asked.dead_time, store, placer)?;
+    Ok(Plans { rack, port })
 }
 
 // Takes the memory and checks the plans. For want of memory nothing changes.
-pub(crate) fn prepare(heap: Global, bench: &mut Bench, asked: Asked) -> Result<Ready, Answer> {
-    let Ok(mut memory) = Memory::take(heap, asked.rack) else {
-        return Err(Answer::NoMemory);
-    };
+pub(crate) fn prepare(heap: Global, bench: &mut Bench, asked: Asked) -> Result<Ready, Refusal> {
+    let mut memory = Memory::take(heap, asked.rack)?;
     let planned = match asked.placer {
-        PlacerKind::ByTime => plans_over(bench, asked, &mut memory, &ByTime::new()),
-        PlacerKind::ByCount => plans_over(bench, asked, &mut memory, &ByCount::new()),
+        PlacerKind::ByTime => memory.plans(bench, asked, &ByTime::new()),
+        PlacerKind::ByCount => memory.plans(bench, asked, &ByCount::new()),
     };
     match planned {
         Ok(plans) => Ok(Ready {
@@ -163,9 +137,9 @@ pub(crate) fn prepare(heap: Global, bench: &mut Bench, asked: Asked) -> Result<R
             plans,
             memory,
         }),
-        Err(answer) => {
+        Err(refusal) => {
             memory.end();
-            Err(answer)
+            Err(refusal)
         }
     }
 }

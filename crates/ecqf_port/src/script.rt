@@ -1,342 +1,81 @@
 // The commands of a script, and a line read as one.
 ghost use Rattle.std.specs.Prelude.{◌≡◌};
-ghost use Rattle.std.specs.Str.{bytes_eq};
-ghost use Rattle.ecqf_port.specs.Words.{first_word, after_word};
-ghost use Rattle.ecqf_port.specs.Script.{line_of, command_in, bins_in, class_in, set_in, hold_in, rack_in, placer_in, frame_in, run_in, one_in, ended, name_in, port_name_in, rack_kind_in, placer_kind_in, says_nothing};
+ghost use Rattle.ecqf_port.specs.Script.{command_in, rack_in, frame_in, run_in};
 
-use crate::kinds::{PlacerKind, RackChoice, RackKind};
-use crate::words::Words;
-use book::rows::Booking;
-use book::setup::Class;
+use crate::kinds::{PlacerKind, RackChoice};
 use loads::marks::Mark;
+use racks::plan::Numbers;
+use scripting::script::{Command as BookCommand, FromLine};
+use scripting::words::{Words, is};
 
 // A command with its numbers.
 #[derive(Clone, Copy)]
 pub enum Command {
-    Bins { delay: u32, cycle: u32, phase: u32 },
-    AddClass(Class),
-    AddInput(u32),
+    Book(BookCommand),
     Rack(RackChoice),
     Placer(PlacerKind),
-    Set { delay: u32, dead_time: u32 },
-    Hold { stream: u8, booking: Booking },
-    Confirm(u8),
-    Drop(u8),
-    Release(u8),
-    Advance(u64),
     Frame { input: u8, stamp: u64, mark: Mark },
     Filler(u16),
     // Without a number of places the list of departures is just long enough.
     Run { until: u64, places: Option<u32> },
-    Show,
-}
-
-// The first word of a command.
-#[derive(Clone, Copy)]
-pub(crate) enum Name {
-    Bins,
-    Class,
-    Input,
-    Set,
-    Hold,
-    Confirm,
-    Drop,
-    Release,
-    Advance,
-    Show,
-    Rack,
-    Placer,
-    Frame,
-    Filler,
-    Run,
-}
-
-// What one line of a script says.
-#[derive(Clone, Copy)]
-pub enum Line {
-    // Blank, or a remark.
-    Silent,
-    Does(Command),
-    NotUnderstood,
-}
-
-fn read_bins(words: &mut Words) -> Option<Command>
-    ensures { result ≡ bins_in words.old.rest.now }
-{
-    let delay = words.u32()?;
-    let cycle = words.u32()?;
-    let phase = words.u32()?;
-    words.end(Command::Bins {
-        delay,
-        cycle,
-        phase,
-    })
-}
-
-fn read_class(words: &mut Words) -> Option<Command>
-    ensures { result ≡ class_in words.old.rest.now }
-{
-    let cycle = words.u32()?;
-    let bins = words.u8()?;
-    words.end(Command::AddClass(Class { cycle, bins }))
-}
-
-fn read_set(words: &mut Words) -> Option<Command>
-    ensures { result ≡ set_in words.old.rest.now }
-{
-    let delay = words.u32()?;
-    let dead_time = words.u32()?;
-    words.end(Command::Set { delay, dead_time })
-}
-
-fn read_hold(words: &mut Words) -> Option<Command>
-    ensures { result ≡ hold_in words.old.rest.now }
-{
-    let stream = words.u8()?;
-    let input = words.u8()?;
-    let class = words.u8()?;
-    let longest = words.u16()?;
-    let quota = words.u32()?;
-    let booking = Booking {
-        input,
-        class,
-        longest,
-        quota,
-    };
-    words.end(Command::Hold { stream, booking })
-}
-
-fn read_input(words: &mut Words) -> Option<Command>
-    ensures { result ≡ one_in 4294967295 Command.AddInput words.old.rest.now }
-{
-    let phase = words.u32()?;
-    words.end(Command::AddInput(phase))
-}
-
-fn read_confirm(words: &mut Words) -> Option<Command>
-    ensures { result ≡ one_in 255 Command.Confirm words.old.rest.now }
-{
-    let stream = words.u8()?;
-    words.end(Command::Confirm(stream))
-}
-
-fn read_drop(words: &mut Words) -> Option<Command>
-    ensures { result ≡ one_in 255 Command.Drop words.old.rest.now }
-{
-    let stream = words.u8()?;
-    words.end(Command::Drop(stream))
-}
-
-fn read_release(words: &mut Words) -> Option<Command>
-    ensures { result ≡ one_in 255 Command.Release words.old.rest.now }
-{
-    let stream = words.u8()?;
-    words.end(Command::Release(stream))
-}
-
-fn read_advance(words: &mut Words) -> Option<Command>
-    ensures { result ≡ one_in 18446744073709551615 Command.Advance words.old.rest.now }
-{
-    let until = words.u64()?;
-    words.end(Command::Advance(until))
-}
-
-// The next word as a kind of rack.
-fn rack_kind(words: &mut Words) -> Option<RackKind>
-    ensures value { result ≡ rack_kind_in (first_word words.old.rest.now) }
-    ensures rest { words.new.rest.now ≡ after_word words.old.rest.now }
-{
-    let word = words.next();
-    if is(word, b"rows") {
-        return Some(RackKind::Rows);
-    }
-    if is(word, b"cells") {
-        return Some(RackKind::Cells);
-    }
-    None
 }
 
 fn read_rack(words: &mut Words) -> Option<Command>
     ensures { result ≡ rack_in words.old.rest.now }
 {
-    let kind = rack_kind(words)?;
-    let bins = words.u32()?;
-    let depth = words.u32()?;
-    let total = words.u32()?;
-    words.end(Command::Rack(RackChoice {
-        kind,
-        bins,
-        depth,
-        total,
-    }))
-}
-
-// The next word as a kind of placer.
-fn placer_kind(words: &mut Words) -> Option<PlacerKind>
-    ensures value { result ≡ placer_kind_in (first_word words.old.rest.now) }
-    ensures rest { words.new.rest.now ≡ after_word words.old.rest.now }
-{
-    let word = words.next();
-    if is(word, b"time") {
-        return Some(PlacerKind::ByTime);
-    }
-    if is(word, b"count") {
-        return Some(PlacerKind::ByCount);
-    }
-    None
-}
-
-fn read_placer(words: &mut Words) -> Option<Command>
-    ensures { result ≡ placer_in words.old.rest.now }
-{
-    let kind = placer_kind(words)?;
-    words.end(Command::Placer(kind))
+    let kind = words.read()?;
+    let bins = words.read()?;
+    let depth = words.read()?;
+    let total = words.read()?;
+    let numbers = Numbers { bins, depth, total };
+    words.end(Command::Rack(RackChoice { kind, numbers }))
 }
 
 fn read_frame(words: &mut Words) -> Option<Command>
     ensures { result ≡ frame_in words.old.rest.now }
 {
-    let input = words.u8()?;
-    let stamp = words.u64()?;
-    let stream = words.u8()?;
-    let length = words.u16()?;
-    let buffer = words.u32()?;
+    let input = words.read()?;
+    let stamp = words.read()?;
+    let stream = words.read()?;
+    let length = words.read()?;
+    let buffer = words.read()?;
     let mark = Mark::new(stream, length, buffer);
     words.end(Command::Frame { input, stamp, mark })
-}
-
-fn read_filler(words: &mut Words) -> Option<Command>
-    ensures { result ≡ one_in 65535 Command.Filler words.old.rest.now }
-{
-    let length = words.u16()?;
-    words.end(Command::Filler(length))
 }
 
 fn read_run(words: &mut Words) -> Option<Command>
     ensures { result ≡ run_in words.old.rest.now }
 {
-    let until = words.u64()?;
+    let until = words.read()?;
     if words.has_ended() {
         return Some(Command::Run {
             until,
             places: None,
         });
     }
-    let places = words.u32()?;
+    let places = words.read()?;
     words.end(Command::Run {
         until,
         places: Some(places),
     })
 }
 
-fn is(word: &[u8], name: &[u8]) -> bool
-    ensures { result ≡ bytes_eq word.now name.now }
-{
-    word == name
-}
+impl FromLine for Command {
+    ghost in_line = { command_in };
 
-fn name_of(word: &[u8]) -> Option<Name>
-    ensures { result ≡ name_in word.now }
-{
-    if is(word, b"bins") {
-        return Some(Name::Bins);
-    }
-    if is(word, b"class") {
-        return Some(Name::Class);
-    }
-    if is(word, b"input") {
-        return Some(Name::Input);
-    }
-    if is(word, b"set") {
-        return Some(Name::Set);
-    }
-    if is(word, b"hold") {
-        return Some(Name::Hold);
-    }
-    if is(word, b"confirm") {
-        return Some(Name::Confirm);
-    }
-    if is(word, b"drop") {
-        return Some(Name::Drop);
-    }
-    if is(word, b"release") {
-        return Some(Name::Release);
-    }
-    if is(word, b"advance") {
-        return Some(Name::Advance);
-    }
-    if is(word, b"show") {
-        return Some(Name::Show);
-    }
-    port_name_of(word)
-}
-
-// The commands that came with the port.
-fn port_name_of(word: &[u8]) -> Option<Name>
-    ensures { result ≡ port_name_in word.now }
-{
-    if is(word, b"rack") {
-        return Some(Name::Rack);
-    }
-    if is(word, b"placer") {
-        return Some(Name::Placer);
-    }
-    if is(word, b"frame") {
-        return Some(Name::Frame);
-    }
-    if is(word, b"filler") {
-        return Some(Name::Filler);
-    }
-    if is(word, b"run") {
-        return Some(Name::Run);
-    }
-    None
-}
-
-// The command that a first word names, with its numbers from the words after it.
-fn read_command(word: &[u8], words: &mut Words) -> Option<Command>
-    ensures { result ≡ command_in word.now words.old.rest.now }
-{
-    match name_of(word) {
-        Some(Name::Bins) => read_bins(words),
-        Some(Name::Class) => read_class(words),
-        Some(Name::Input) => read_input(words),
-        Some(Name::Set) => read_set(words),
-        Some(Name::Hold) => read_hold(words),
-        Some(Name::Confirm) => read_confirm(words),
-        Some(Name::Drop) => read_drop(words),
-        Some(Name::Release) => read_release(words),
-        Some(Name::Advance) => read_advance(words),
-        Some(Name::Show) => words.end(Command::Show),
-        Some(Name::Rack) => read_rack(words),
-        Some(Name::Placer) => read_placer(words),
-        Some(Name::Frame) => read_frame(words),
-        Some(Name::Filler) => read_filler(words),
-        Some(Name::Run) => read_run(words),
-        None => None,
-    }
-}
-
-fn says_nothing(word: &[u8]) -> bool
-    ensures { result ≡ says_nothing word.now }
-{
-    match word {
-        [] => true,
-        [byte, ..] => *byte == b'#',
-    }
-}
-
-// What a line says.
-pub fn parse(line: &[u8]) -> Line
-    ensures { result ≡ line_of line.now }
-{
-    let mut words = Words::of(line);
-    let first = words.next();
-    if says_nothing(first) {
-        return Line::Silent;
-    }
-    match read_command(first, &mut words) {
-        Some(command) => Line::Does(command),
-        None => Line::NotUnderstood,
+    fn from_line(word: &[u8], words: &mut Words) -> Option<Command> {
+        if is(word, b"rack") {
+            read_rack(words)
+        } else if is(word, b"placer") {
+            words.last().map(Command::Placer)
+        } else if is(word, b"frame") {
+            read_frame(words)
+        } else if is(word, b"filler") {
+            words.last().map(Command::Filler)
+        } else if is(word, b"run") {
+            read_run(words)
+        } else {
+            BookCommand::from_line(word, words).map(Command::Book)
+        }
     }
 }

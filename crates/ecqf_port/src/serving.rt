@@ -1,208 +1,89 @@
 // A script carried out, on a book alone or on a port, until an accepted set replaces it.
-ghost use Rattle.std.specs.Prelude.{◌≡◌};
+ghost use Rattle.std.specs.Prelude.{◌≡◌, Some};
+ghost use Rattle.std.specs.Option.{option_map};
+ghost use Rattle.book.specs.Sets.{numbers_of};
+ghost use Rattle.book.specs.Books.{new_book};
+ghost use Rattle.ecqf_port.specs.Desks.{book_of};
 ghost use Rattle.ecqf_port.specs.Lists.{list_places};
 
-use crate::answers::Answer;
+use crate::answers::{Done, Refusal};
 use crate::bench::Bench;
-use crate::desk::Desk;
 use crate::kinds::{PlacerKind, RackKind};
 use crate::lines::Lines;
-use crate::printing::Page;
-use crate::ready::{Asked, Memory, Plans, Ready};
-use crate::script::{Command, Line};
-use crate::slots::Blank;
-use crate::{ready, script};
+use crate::printing::Departures;
+use crate::ready;
+use crate::ready::{Memory, Plans, Ready};
+use crate::script::Command;
+use book::frames::SHORTEST_ON_WIRE;
+use book::ledger::Book;
+use book::rows::STREAMS;
 use book::ticks::LAST_TICK;
 use loads::marks::Mark;
 use placers::by_count::ByCount;
 use placers::by_time::ByTime;
 use placers::placer::Placer;
+use port::plan::Plan;
+use port::ports::Port;
 use racks::cells::CellSlots;
 use racks::rack::Rack;
 use racks::rows::RowSlots;
 use racks::store::Store;
 use schedule::departures::Departure;
+use scripting::answers::{Done as BookDone, Refusal as BookRefusal};
+use scripting::desk::Desk;
+use scripting::notes::Blank;
+use scripting::printing::{Page, Shown};
+use scripting::script;
+use scripting::script::{Command as BookCommand, NotUnderstood};
 use std::alloc::Global;
-
-// The octets on the wire of the shortest frame.
-const SHORTEST_ON_WIRE: u64 = 84;
+use std::fmt::Display;
+use std::io::{BufWriter, Stdout};
 
 // What a script is carried out with, whatever is served.
 pub(crate) struct Session {
     pub(crate) heap: Global,
     pub(crate) bench: Bench,
     pub(crate) lines: Lines,
-    pub(crate) page: Page,
+    pub(crate) page: Page<BufWriter<Stdout>>,
 }
 
-// What is served next.
-pub(crate) enum Next {
-    End,
+// What is served.
+pub(crate) enum Served {
     Alone,
     Port(Ready),
-}
-
-// What became of a line.
-enum Step {
-    Done,
-    NotUnderstood,
-    Replaced(Next),
-}
-
-impl Next {
-    fn is_end(&self) -> bool {
-        match self {
-            Next::End => true,
-            _ => false,
-        }
-    }
-
-    // Nothing more is served.
-    fn end(self) {
-        match self {
-            Next::Port(ready) => {
-                let Ready {
-                    kind: _,
-                    placer: _,
-                    plans: _,
-                    memory,
-                } = ready;
-                memory.end();
-            }
-            Next::End => {}
-            Next::Alone => {}
-        }
-    }
-}
-
-// What a set comes to: a port that is to be served, or an answer.
-fn try_set(heap: Global, bench: &mut Bench, delay: u32, dead_time: u32) -> Result<Ready, Answer> {
-    match bench.carry_out(Command::Set { delay, dead_time }) {
-        Answer::SetPort { rack, placer } => {
-            let asked = Asked {
-                rack,
-                placer,
-                delay,
-                dead_time,
-            };
-            ready::prepare(heap, bench, asked)
-        }
-        answer => Err(answer),
-    }
-}
-
-fn not_understood(page: &mut Page, line: &[u8]) -> Step {
-    page.echo(line);
-    page.text(b"not understood\n");
-    Step::NotUnderstood
-}
-
-// The lines of a set that replaces a module: the notes that were dropped, and then its own.
-fn replaced(page: &mut Page, dropped: &[bool; 128], line: &[u8]) {
-    page.dropped(dropped);
-    page.echo(line);
-    page.text(b"set\n");
-}
-
-fn say_alone(bench: &Bench, page: &mut Page, line: &[u8], answer: Answer) -> Step {
-    if let Answer::NotUnderstood = &answer {
-        return not_understood(page, line);
-    }
-    if let Answer::Set { dropped } = &answer {
-        page.dropped(dropped);
-    }
-    page.echo(line);
-    page.answer(&answer, bench.book());
-    Step::Done
-}
-
-fn alone_line(heap: Global, bench: &mut Bench, page: &mut Page, line: &[u8]) -> Step {
-    match script::parse(line) {
-        Line::Silent => Step::Done,
-        Line::NotUnderstood => not_understood(page, line),
-        Line::Does(Command::Set { delay, dead_time }) => {
-            match try_set(heap, bench, delay, dead_time) {
-                Ok(ready) => {
-                    let dropped = bench.give_up();
-                    replaced(page, &dropped, line);
-                    Step::Replaced(Next::Port(ready))
-                }
-                Err(answer) => say_alone(bench, page, line, answer),
-            }
-        }
-        Line::Does(command) => {
-            let answer = bench.carry_out(command);
-            say_alone(bench, page, line, answer)
-        }
-    }
-}
-
-// Serves a book alone, or nothing that is set.
-fn serve_alone(session: &mut Session) -> Next {
-    for _ in 0..u64::MAX {
-        if session.page.has_failed() || !session.lines.read_next() {
-            break;
-        }
-        let line = session.lines.line();
-        match alone_line(session.heap, &mut session.bench, &mut session.page, line) {
-            Step::Done => {}
-            Step::NotUnderstood => session.lines.doubt(),
-            Step::Replaced(next) => return next,
-        }
-    }
-    Next::End
-}
-
-// The answer of a port, or of the bench where the command is not one for a port.
-fn port_answer<R: Rack<Item = Mark>, P: Placer>(
-    desk: &mut Desk<R, P>,
-    bench: &mut Bench,
-    command: Command,
-) -> Answer {
-    match command {
-        Command::Hold { stream, booking } => desk.hold(stream, booking),
-        Command::Confirm(stream) => desk.confirm(stream),
-        Command::Drop(stream) => desk.drop_note(stream),
-        Command::Release(stream) => desk.release(stream),
-        Command::Advance(_) => Answer::PortRuns,
-        Command::Frame { input, stamp, mark } => match desk.frame(input, stamp, mark) {
-            Ok(cycle) => Answer::Cycle(cycle),
-            Err(fault) => Answer::RefusedPort(fault),
-        },
-        Command::Filler(length) => match desk.filler(length) {
-            Ok(()) => Answer::TakenUntil(desk.port().wire()),
-            Err(fault) => Answer::RefusedPort(fault),
-        },
-        Command::Show => Answer::Shown,
-        _ => bench.carry_out(command),
-    }
 }
 
 // The places of a list that is just long enough. None where the tick is refused, so that no memory is taken for it.
 fn list_places(clock: u64, until: u64, places: Option<u32>) -> u64
     ensures { result ≡ list_places clock until places }
 {
-    if until < clock {
+    if until < clock || until > LAST_TICK {
         return 0;
     }
-    if until > LAST_TICK {
-        return 0;
-    }
-    let most = (until - clock) / SHORTEST_ON_WIRE + 1;
-    match places {
-        Some(places) => most.min(u64::from(places)),
-        None => most,
+    let most = (until - clock) / u64::from(SHORTEST_ON_WIRE) + 1;
+    places.map_or(most, |places| most.min(u64::from(places)))
+}
+
+// A desk over a new port, and no note in hand.
+fn open<R: Rack, P: Placer>(blank: Blank, plan: Plan, rack: R, placer: P) -> Desk<Port<R, P>>
+    ensures { option_map book_of result.module ≡ Some (new_book (numbers_of plan.settings)) }
+{
+    Desk {
+        module: Some(Port::make(plan, rack, placer)),
+        notes: blank.notes(),
     }
 }
 
 fn run_port<R: Rack<Item = Mark>, P: Placer>(
     heap: Global,
-    desk: &mut Desk<R, P>,
-    page: &mut Page,
+    desk: &mut Desk<Port<R, P>>,
     until: u64,
     places: Option<u32>,
-) {
-    let places = list_places(desk.port().clock(), until, places);
+) -> Result<Vec<Departure<Mark>>, Refusal> {
+    let Some(port) = &mut desk.module else {
+        return Err(Refusal::Book(BookRefusal::NothingSet));
+    };
+    let places = list_places(port.clock(), until, places);
     let nothing = Departure {
         stream: 0,
         class: 0,
@@ -210,165 +91,233 @@ fn run_port<R: Rack<Item = Mark>, P: Placer>(
         start: 0,
         load: Mark::new(0, 0, 0),
     };
-    match vec![in heap; nothing; places as usize] {
-        Ok(mut list) => match desk.run(until, list.as_mut_slice()) {
-            Ok(count) => page.departures(count, list.as_slice()),
-            Err(fault) => page.answer(&Answer::RefusedPort(fault), Some(desk.port())),
-        },
-        Err(_) => page.answer(&Answer::NoMemory, Some(desk.port())),
-    }
+    let mut list = vec![in heap; nothing; places as usize]?;
+    let count = port.run(until, list.as_mut_slice())?;
+    list.truncate(count);
+    Ok(list)
 }
 
-fn set_line(heap: Global, bench: &mut Bench, delay: u32, dead_time: u32) -> Result<Next, Answer> {
-    match try_set(heap, bench, delay, dead_time) {
-        Ok(ready) => Ok(Next::Port(ready)),
-        Err(Answer::Set { .. }) => Ok(Next::Alone),
-        Err(answer) => Err(answer),
-    }
-}
-
-fn say_port<R: Rack<Item = Mark>, P: Placer>(
-    desk: &Desk<R, P>,
-    page: &mut Page,
-    line: &[u8],
-    answer: Answer,
-) -> Step {
-    if let Answer::NotUnderstood = &answer {
-        return not_understood(page, line);
-    }
-    page.echo(line);
-    page.answer(&answer, Some(desk.port()));
-    Step::Done
-}
-
-fn port_line<R: Rack<Item = Mark>, P: Placer>(
-    heap: Global,
-    desk: &mut Desk<R, P>,
+// The answer of a port, or of the bench where the command is not one for a port.
+fn port_answer<R: Rack<Item = Mark>, P: Placer>(
+    desk: &mut Desk<Port<R, P>>,
     bench: &mut Bench,
-    page: &mut Page,
-    line: &[u8],
-) -> Step {
-    match script::parse(line) {
-        Line::Silent => Step::Done,
-        Line::NotUnderstood => not_understood(page, line),
-        Line::Does(Command::Set { delay, dead_time }) => {
-            match set_line(heap, bench, delay, dead_time) {
-                Ok(next) => Step::Replaced(next),
-                Err(answer) => say_port(desk, page, line, answer),
+    command: Command,
+) -> Result<Done, Refusal> {
+    match command {
+        Command::Book(BookCommand::Call(call)) => {
+            let done = desk.carry_out(call)?;
+            Ok(Done::Book(done))
+        }
+        Command::Book(BookCommand::Advance(_)) => Err(Refusal::PortRuns),
+        Command::Frame { input, stamp, mark } => {
+            let Some(port) = &mut desk.module else {
+                return Err(Refusal::Book(BookRefusal::NothingSet));
+            };
+            Ok(Done::Cycle(port.frame(input, stamp, mark)?))
+        }
+        Command::Filler(length) => {
+            let Some(port) = &mut desk.module else {
+                return Err(Refusal::Book(BookRefusal::NothingSet));
+            };
+            port.filler(length)?;
+            Ok(Done::TakenUntil(port.wire()))
+        }
+        _ => bench.carry_out(command),
+    }
+}
+
+fn book_at<R: Rack, P: Placer>(desk: &Desk<Port<R, P>>) -> Option<&Book> {
+    desk.module.as_ref().map(Port::book)
+}
+
+impl Session {
+    // Prints what the line that was read last answers.
+    fn answer<D: Display + Drop>(&mut self, answer: D) {
+        self.page.line(self.lines.line(), answer);
+    }
+
+    fn not_understood(&mut self) {
+        self.answer(NotUnderstood);
+        self.lines.doubt();
+    }
+
+    fn refused(&mut self, refusal: Refusal) {
+        match refusal {
+            Refusal::NotUnderstood => self.not_understood(),
+            _ => self.answer(refusal),
+        }
+    }
+
+    // The lines of a set that replaces a module: the notes that were dropped, and then its own.
+    fn replaced(&mut self, dropped: &[bool; STREAMS]) {
+        self.page.dropped(dropped);
+        self.answer("set");
+    }
+
+    // The next command, if there is one. Lines before it say nothing, or are not understood.
+    fn next_command(&mut self) -> Option<Command> {
+        // A loop that reads counts its turns, since every loop has a bound.
+        for _ in 0..u64::MAX {
+            if self.page.has_failed() || !self.lines.read_next() {
+                return None;
+            }
+            match script::parse(self.lines.line()) {
+                Ok(Some(command)) => return Some(command),
+                Ok(None) => {}
+                Err(NotUnderstood) => self.not_understood(),
             }
         }
-        Line::Does(Command::Run { until, places }) => {
-            page.echo(line);
-            run_port(heap, desk, page, until, places);
-            Step::Done
+        None
+    }
+
+    // Carries a command out on a book alone, or where nothing is set, until it sets a port.
+    fn alone_command(&mut self, command: Command) -> Option<Ready> {
+        match self.bench.carry_out(command) {
+            Ok(Done::SetPort(asked)) => match ready::prepare(self.heap, &mut self.bench, asked) {
+                Ok(ready) => {
+                    let dropped = self.bench.give_up();
+                    self.replaced(&dropped);
+                    return Some(ready);
+                }
+                Err(refusal) => self.refused(refusal),
+            },
+            Ok(Done::Book(BookDone::Set { dropped })) => self.replaced(&dropped),
+            Ok(Done::Book(BookDone::Shown)) => {
+                let shown = Shown(self.bench.book());
+                self.page.line(self.lines.line(), shown);
+            }
+            Ok(done) => self.answer(done),
+            Err(refusal) => self.refused(refusal),
         }
-        Line::Does(command) => {
-            let answer = port_answer(desk, bench, command);
-            say_port(desk, page, line, answer)
+        None
+    }
+
+    // Serves a book alone, or nothing that is set. None where the script ends.
+    fn serve_alone(&mut self) -> Option<Served> {
+        // Bounded as above.
+        for _ in 0..u64::MAX {
+            let command = self.next_command()?;
+            if let Some(ready) = self.alone_command(command) {
+                return Some(Served::Port(ready));
+            }
+        }
+        None
+    }
+
+    // A set beside a port: what is to be served in its place.
+    fn set_beside(&mut self, command: Command) -> Result<Served, Refusal> {
+        match self.bench.carry_out(command)? {
+            Done::SetPort(asked) => {
+                let ready = ready::prepare(self.heap, &mut self.bench, asked)?;
+                Ok(Served::Port(ready))
+            }
+            _ => Ok(Served::Alone),
         }
     }
-}
 
-// Serves a port.
-fn serve<R: Rack<Item = Mark> + Drop, P: Placer + Drop>(
-    mut desk: Desk<R, P>,
-    session: &mut Session,
-) -> Next {
-    for _ in 0..u64::MAX {
-        if session.page.has_failed() || !session.lines.read_next() {
-            break;
+    // Carries a command out on a port, until it sets what is to be served in its place.
+    fn port_command<R: Rack<Item = Mark>, P: Placer>(
+        &mut self,
+        desk: &mut Desk<Port<R, P>>,
+        command: Command,
+    ) -> Option<Served> {
+        match command {
+            Command::Book(BookCommand::Set { .. }) => match self.set_beside(command) {
+                Ok(served) => return Some(served),
+                Err(refusal) => self.refused(refusal),
+            },
+            Command::Book(BookCommand::Show) => self.answer(Shown(book_at(desk))),
+            Command::Run { until, places } => match run_port(self.heap, desk, until, places) {
+                Ok(list) => self.answer(Departures(list.as_slice())),
+                Err(refusal) => self.refused(refusal),
+            },
+            _ => match port_answer(desk, &mut self.bench, command) {
+                Ok(done) => self.answer(done),
+                Err(refusal) => self.refused(refusal),
+            },
         }
-        let line = session.lines.line();
-        match port_line(
-            session.heap,
-            &mut desk,
-            &mut session.bench,
-            &mut session.page,
-            line,
-        ) {
-            Step::Done => {}
-            Step::NotUnderstood => session.lines.doubt(),
-            Step::Replaced(next) => {
-                let dropped = desk.close();
-                replaced(&mut session.page, &dropped, session.lines.line());
-                return next;
+        None
+    }
+
+    // Serves a port. None where the script ends.
+    fn serve_port<R: Rack<Item = Mark> + Drop, P: Placer + Drop>(
+        &mut self,
+        mut desk: Desk<Port<R, P>>,
+    ) -> Option<Served> {
+        // Bounded as above.
+        for _ in 0..u64::MAX {
+            let Some(command) = self.next_command() else {
+                break;
+            };
+            if let Some(served) = self.port_command(&mut desk, command) {
+                self.replaced(&desk.close());
+                return Some(served);
+            }
+        }
+        self.page.dropped(&desk.close());
+        None
+    }
+
+    // Serves a port over the racks that are ready.
+    fn serve_over<P: Placer + Drop>(
+        &mut self,
+        kind: RackKind,
+        plans: Plans,
+        memory: Memory,
+        placer: P,
+    ) -> Option<Served> {
+        let Memory {
+            mut places,
+            mut next,
+            blank,
+        } = memory;
+        let places = places.as_mut_slice();
+        match kind {
+            RackKind::Rows => {
+                let mut slots = RowSlots::make(plans.rack);
+                let store = Store::over(places, &mut slots);
+                self.serve_port(open(blank, plans.port, store, placer))
+            }
+            RackKind::Cells => {
+                let mut slots = CellSlots::make(plans.rack, next.as_mut_slice());
+                let store = Store::over(places, &mut slots);
+                self.serve_port(open(blank, plans.port, store, placer))
             }
         }
     }
-    session.page.dropped(&desk.close());
-    Next::End
-}
 
-fn serve_rows<P: Placer + Drop>(
-    plans: Plans,
-    blank: Blank,
-    places: &mut [Mark],
-    placer: P,
-    session: &mut Session,
-) -> Next {
-    let mut slots = RowSlots::make(plans.rack);
-    let store = Store::over(places, &mut slots);
-    let desk = Desk::open(blank, plans.port, store, placer);
-    serve(desk, session)
-}
-
-fn serve_cells<P: Placer + Drop>(
-    plans: Plans,
-    blank: Blank,
-    places: &mut [Mark],
-    next: &mut [u32],
-    placer: P,
-    session: &mut Session,
-) -> Next {
-    let mut slots = CellSlots::make(plans.rack, next);
-    let store = Store::over(places, &mut slots);
-    let desk = Desk::open(blank, plans.port, store, placer);
-    serve(desk, session)
-}
-
-fn serve_over<P: Placer + Drop>(ready: Ready, placer: P, session: &mut Session) -> Next {
-    let Ready {
-        kind,
-        placer: _,
-        plans,
-        memory,
-    } = ready;
-    let Memory {
-        places,
-        next,
-        blank,
-    } = memory;
-    let mut places = places;
-    let mut next = next;
-    let lent = places.as_mut_slice();
-    match kind {
-        RackKind::Rows => serve_rows(plans, blank, lent, placer, session),
-        RackKind::Cells => {
-            let next = next.as_mut_slice();
-            serve_cells(plans, blank, lent, next, placer, session)
+    // Serves a port that is ready. None where the script ends.
+    fn serve_ready(&mut self, ready: Ready) -> Option<Served> {
+        let Ready {
+            kind,
+            placer,
+            plans,
+            memory,
+        } = ready;
+        match placer {
+            PlacerKind::ByTime => self.serve_over(kind, plans, memory, ByTime::new()),
+            PlacerKind::ByCount => self.serve_over(kind, plans, memory, ByCount::new()),
         }
     }
-}
 
-fn serve_next(next: Next, session: &mut Session) -> Next {
-    match next {
-        Next::End => Next::End,
-        Next::Alone => serve_alone(session),
-        Next::Port(ready) => match ready.placer {
-            PlacerKind::ByTime => serve_over(ready, ByTime::new(), session),
-            PlacerKind::ByCount => serve_over(ready, ByCount::new(), session),
-        },
-    }
-}
-
-// Runs a script to its end.
-pub(crate) fn run(session: &mut Session) {
-    let mut next = Next::Alone;
-    for _ in 0..u64::MAX {
-        if next.is_end() {
-            break;
+    // Runs a script to its end.
+    pub(crate) fn run(&mut self) {
+        let mut next = Some(Served::Alone);
+        // Bounded as above.
+        for _ in 0..u64::MAX {
+            let Some(served) = next else {
+                return;
+            };
+            next = match served {
+                Served::Alone => self.serve_alone(),
+                Served::Port(ready) => self.serve_ready(ready),
+            };
         }
-        next = serve_next(next, session);
+        // No script is that long; what is ready must be ended all the same.
+        match next {
+            Some(Served::Port(ready)) => ready.end(),
+            Some(Served::Alone) => {}
+            None => {}
+        }
     }
-    next.end();
 }

@@ -56,7 +56,7 @@ after call = next_of nothing.loads nothing.rules no_module call
 
 stays : (call : Call (Unit {0})) (k : ℕ) → after call ≡ no_module → Changed (λ j. nothing) k call (λ j h. Unit {0}) (λ j h. Unit {0}) (λ j. no_module) (λ j. no_module)
 unfolding after
-stays call k e = record { here = λ h u. sym e; onward = λ h u. tt; others = λ j d. refl; stay = λ j d h u. tt }
+stays call k e = record { here = record { next = λ h u. sym e; onward = λ h u. tt }; others = λ j d. refl; stay = λ j d h u. tt }
 
 pub stays-hold : (s : ℕ) (b : Booking) (k : ℕ) → Changed (λ j. nothing) k (Hold s b) (λ j h. Unit {0}) (λ j h. Unit {0}) (λ j. no_module) (λ j. no_module)
 unfolding after modules.holding

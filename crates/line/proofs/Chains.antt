@@ -2,8 +2,8 @@
 use Rattle.std.proofs.Common.{◌≡◌, ℕ, zero, suc, ◌-◌, sym, refl, ap, ◌∙◌, subst, arith}
 use Rattle.book.specs.Books.{BookState}
 use Rattle.schedule.specs.Modules.{State}
-use Rattle.schedule.specs.Histories.{Call, next_of}
-use Rattle.line.specs.Banks.{Meaning, States, History, Standing, and_then, ahead, state_ahead, stand_ahead, Changed}
+use Rattle.schedule.specs.Histories.{Call}
+use Rattle.line.specs.Banks.{Meaning, States, History, Standing, ahead, state_ahead, stand_ahead, Takes, Changed}
 
 -- What holds of number 0 holds of a number that is 0, and what holds of the number after one less holds of a number that is not.
 at_first : (P : ℕ → Type 0) (n : ℕ) → n ≡ 0 → P 0 → P n
@@ -15,9 +15,8 @@ at-later P n e h = let k : suc (n - 1) ≡ n = omega arith in subst P k h
 module _ (m : Meaning) (f : ℕ → Meaning) where
   module _ (call : (L : Type 0) → Call L) where
     changed-zero : (a b : State m.Load m.Record) (rest : States f) (A B : History m → Type 0) (S : Standing f)
-        → ((h : History m) → A h → b ≡ next_of m.loads m.rules a (call m.Load)) → ((h : History m) → A h → B (and_then m h (call m.Load)))
-        → Changed (ahead m f) 0 (call m.Load) (stand_ahead m f A S) (stand_ahead m f B S) (state_ahead m f a rest) (state_ahead m f b rest)
-    changed-zero a b rest A B S e o = record { here = e; onward = o; others = λ j d. others j d; stay = λ j d. stay j d }
+        → Takes m (call m.Load) A B a b → Changed (ahead m f) 0 (call m.Load) (stand_ahead m f A S) (stand_ahead m f B S) (state_ahead m f a rest) (state_ahead m f b rest)
+    changed-zero a b rest A B S c = record { here = c; others = λ j d. others j d; stay = λ j d. stay j d }
       where
         others : (j : ℕ) → (j ≡ 0 → ⊥) → state_ahead m f b rest j ≡ state_ahead m f a rest j
         others zero d = absurd (d refl)
@@ -29,7 +28,7 @@ module _ (m : Meaning) (f : ℕ → Meaning) where
 
     changed-suc : (k : ℕ) (a : State m.Load m.Record) (old new : States f) (A : History m → Type 0) (S S' : Standing f) → Changed f k (call (f k).Load) S S' old new
         → Changed (ahead m f) (suc k) (call (f k).Load) (stand_ahead m f A S) (stand_ahead m f A S') (state_ahead m f a old) (state_ahead m f a new)
-    changed-suc k a old new A S S' c = record { here = c.here; onward = c.onward; others = λ j d. others j d; stay = λ j d. stay j d }
+    changed-suc k a old new A S S' c = record { here = c.here; others = λ j d. others j d; stay = λ j d. stay j d }
       where
         others : (j : ℕ) → (j ≡ suc k → ⊥) → state_ahead m f a new j ≡ state_ahead m f a old j
         others zero d = refl
@@ -48,9 +47,8 @@ module _ (m : Meaning) (f : ℕ → Meaning) where
     answer-first rule r h = h ∙ sym (ap rule book-first)
 
     pub changed-first : (call : (L : Type 0) → Call L) (b : State m.Load m.Record) (A B : History m → Type 0) (S : Standing f)
-        → ((h : History m) → A h → b ≡ next_of m.loads m.rules a (call m.Load)) → ((h : History m) → A h → B (and_then m h (call m.Load)))
-        → Changed (ahead m f) n (call (ahead m f n).Load) (stand_ahead m f A S) (stand_ahead m f B S) (state_ahead m f a rest) (state_ahead m f b rest)
-    changed-first call b A B S h o = at_first (λ k. Changed (ahead m f) k (call (ahead m f k).Load) (stand_ahead m f A S) (stand_ahead m f B S) (state_ahead m f a rest) (state_ahead m f b rest)) n e (changed-zero call a b rest A B S h o)
+        → Takes m (call m.Load) A B a b → Changed (ahead m f) n (call (ahead m f n).Load) (stand_ahead m f A S) (stand_ahead m f B S) (state_ahead m f a rest) (state_ahead m f b rest)
+    changed-first call b A B S c = at_first (λ k. Changed (ahead m f) k (call (ahead m f k).Load) (stand_ahead m f A S) (stand_ahead m f B S) (state_ahead m f a rest) (state_ahead m f b rest)) n e (changed-zero call a b rest A B S c)
 
   -- A call on a later one: it is the bank's, with one less, and the first module is as it was.
   module _ (n : ℕ) (e : n ≡ 0 → ⊥) (a : State m.Load m.Record) (old : States f) where

@@ -1,11 +1,11 @@
 -- One module of a path: refused, a hold leaves it as it was; taken, its confirm makes the row live, and its drop gives the module back as it was.
-use Rattle.std.proofs.Common.{◌≡◌, ℕ, ◌<◌, ◌≤◌, Bool, true, not, eqb, ◌⊎◌, List, length, get_or, set, Ok, Err, sym, refl, ap, ◌∙◌, subst, inl, inr}
+use Rattle.std.proofs.Common.{◌≡◌, ℕ, ◌<◌, ◌≤◌, Bool, true, not, eqb, ◌⊎◌, List, length, get_or, set, Ok, Err, sym, ap, ◌∙◌, subst, inl, inr}
 use Rattle.std.proofs.lemmas.List.{set-set, set-get_or, get_or-set_same, set_past}
 use Rattle.std.proofs.lemmas.Bool.{and_parts, cases_lt}
 use Rattle.book.specs.declared.faults.BookFault.{BookFault}
 use Rattle.book.specs.declared.rows.Booking.{Booking}
 use Rattle.book.specs.declared.rows.Row.{Row}
-use Rattle.book.specs.declared.rows.Row.TheVariants.{Free, Held, Live, Leaving}
+use Rattle.book.specs.declared.rows.Row.TheVariants.{Free, Held, Live}
 use Rattle.book.specs.declared.ledger.Note.{Note}
 use Rattle.book.specs.Rows.{is_held, confirmed, dropped}
 use Rattle.book.specs.Books.{BookState, row_of, with_rows, no_stream, note_of, held_by, spent_by, hold_of, confirm_of, drop_of}
@@ -16,12 +16,6 @@ use Rattle.schedule.specs.Wires.{Loads}
 use Rattle.schedule.specs.Modules.{State, with_book, renewed_at, confirming, dropping}
 use Rattle.schedule.specs.Modules as modules
 use Rattle.schedule.specs.Histories.{Hold, Confirm, DropHold, next_of}
-
-held_in : (r : Row) → is_held r ≡ true → (k : Booking) × (r ≡ Held k)
-held_in Free e = nope (cc)
-held_in (Held k) e = (k, refl)
-held_in (Live k) e = nope (cc)
-held_in (Leaving k u) e = nope (cc)
 
 -- Where a row that was written reads as held, it is the one that was written: the place is there.
 written : (rows : List Row) (s : ℕ) (k : Booking) → get_or rows s Free ≡ Free → is_held (get_or (set rows s (Held k)) s Free) ≡ true → get_or (set rows s (Held k)) s Free ≡ Held k

@@ -1,184 +1,199 @@
--- One leg of a path: `old` before the leg's hold, `mid` after it, `far` after the rest of the path, `new` after the confirm or the drop.
-use Rattle.std.proofs.Common.{◌≡◌, ℕ, ◌+◌, ◌<◌, ◌≤◌, true, ◌⊎◌, List, length, IfOk, Ok, Err, Result, sym, ap, ◌∙◌, subst, inl, inr, le_refl, eq-or-lt_of_le, arith}
+-- One leg of a path and the rest: `old` before the leg's hold, `mid` after it, `far` after the rest of the path, `new` after the confirm or the drop.
+use Rattle.std.proofs.Common.{◌≡◌, ℕ, zero, suc, ◌<◌, true, List, ◌∷◌, length, Ok, Err, is_ok, Result, MatchResult, IfOk, sym, ap, ◌∙◌, subst, inl, inr, arith}
 use Rattle.std.proofs.lemmas.Bool.{cases_eq}
+use Rattle.std.proofs.lemmas.Result.{IfOk-at_ok}
 use Rattle.book.specs.declared.faults.BookFault.{BookFault}
 use Rattle.book.specs.declared.rows.Booking.{Booking}
-use Rattle.book.specs.declared.rows.Row.TheVariants.{Live}
 use Rattle.book.specs.declared.ledger.Note.{Note}
-use Rattle.book.specs.Books.{BookState, row_of, note_of, held_by, hold_of}
-use Rattle.book.proofs.Within.{nope}
-use Rattle.schedule.specs.Modules.{State}
-use Rattle.schedule.specs.Histories.{Call, Hold, Confirm, DropHold, next_of}
-use Rattle.line.specs.declared.legs.Leg.{Leg}
-use Rattle.line.specs.declared.faults.LegFault.{LegFault}
-use Rattle.line.specs.Faults.{placed}
-use Rattle.line.specs.Banks.{Meaning, States, History, Standing, and_then, Changed}
-use Rattle.line.specs.Paths.{leg_at, booking_at, Sound, booked, confirmed_in, dropped_in, Booked, RefusedAt}
+use Rattle.book.specs.Books.{row_of, note_of, held_by, hold_of}
 use Rattle.book.proofs.Notes.{hold-taken-says}
+use Rattle.schedule.specs.Histories.{Call, Hold, Confirm, DropHold}
+use Rattle.line.specs.declared.legs.Leg.{Leg}
+use Rattle.line.specs.declared.legs.Request.{Request}
+use Rattle.line.specs.declared.faults.LegFault.{LegFault}
+use Rattle.line.specs.declared.banks.Bank.{Ghosts}
+use Rattle.line.specs.Banks.{History, and_then, called, Changed}
+use Rattle.line.specs.Paths.{leg_at, booking_at, Sound, Unnamed, At, booked, confirmed_in, dropped_in, Untouched, LegBooked, Booked, RefusedAt}
+use Rattle.line.proofs.Answered.{held-from}
 use Rattle.line.proofs.Held.{hold-refused, drop-back, row-live}
-
-pub held-from : (p : ℕ) (w : Result Note BookFault) (n : Note) → Ok n ≡ placed p w → w ≡ Ok n
-held-from p (Ok x) n e = cc
-held-from p (Err f) n e = cc
-
--- The note of a taken hold is good.
-pub good-from : (p : ℕ) (w : Result Note BookFault) (n : Note) (b : BookState) → Ok n ≡ placed p w → IfOk w (λ note. held_by b note ≡ true) → held_by b n ≡ true
-good-from p (Ok x) n b e h = let i : x ≡ n = cc in subst (λ (z : Note). held_by b z ≡ true) i h
-good-from p (Err f) n b e h = nope (cc)
-
--- No later leg names the leg's module.
-later : (size at : ℕ) (legs : List Leg) → at < length legs → Sound size at legs → (i : ℕ) → at + 1 ≤ i → i < length legs → (leg_at legs i).number ≡ (leg_at legs at).number → ⊥
-later size at legs h sound i a b e = let l : at < i = omega arith in sound.apart at i (le_refl _) l b (sym e)
 
 -- What holds of one number and of all others holds of each.
 each : (P : ℕ → Type 0) (k : ℕ) → P k → ((j : ℕ) → (j ≡ k → ⊥) → P j) → (j : ℕ) → P j
 each P k h o j = elim (cases_eq j k) [ inl e ↦ subst P (sym e) h | inr e ↦ o j e ]
 
-module _ (f : ℕ → Meaning) (stream longest quota at : ℕ) (legs : List Leg) (h : at < length legs) where
-  -- The module of the leg, and what is booked there.
-  abbrev number : ℕ
-  number = (leg_at legs at).number
+module _ {B : Type 0} (g : Ghosts B) where
+  -- A call on a module takes one bank to the other.
+  abbrev pub Goes : (k : ℕ) → Call (g.meanings k).Load → B → B → Type 0
+  Goes k call a b = Changed g.meanings k call (g.stands a) (g.stands b) (g.states a) (g.states b)
 
-  abbrev booking : Booking
-  booking = booking_at longest quota (leg_at legs at)
+  aside : {k : ℕ} {call : Call (g.meanings k).Load} {a b : B} → Goes k call a b → (j : ℕ) → (j ≡ k → ⊥) → Untouched g a b j
+  aside c j d = record { same = c.others j d; stay = c.stay j d }
 
-  -- The leg's module: its loads and rules, a state of it, and a call.
-  abbrev At : Type 0
-  At = State (f number).Load (f number).Record
+  through : {a b c : B} {k : ℕ} → Untouched g a b k → Untouched g b c k → Untouched g a c k
+  through x y = record { same = y.same ∙ x.same; stay = λ h s. y.stay h (x.stay h s) }
 
-  abbrev step : At → Call (f number).Load → At
-  step a call = next_of (f number).loads (f number).rules a call
+  -- What was booked between two calls on other modules.
+  between : (r : Request) (l : Leg) {old mid far new : B} → Untouched g old mid l.number → Untouched g far new l.number → LegBooked g mid far r l → LegBooked g old new r l
+  between r l {new = new} a z b = record {
+    took = subst (λ (x : At g.meanings l.number). (hold_of x.book r.stream (booking_at r l)).0 ≡ Ok (note_of x.book r.stream)) a.same b.took;
+    on = λ h s. z.same ∙ b.on h (a.stay h s) ∙ ap (booked g.meanings l.number r.stream (booking_at r l)) a.same;
+    live = λ h s. ap (λ (x : At g.meanings l.number). row_of x.book r.stream) z.same ∙ b.live h (a.stay h s);
+    onward = λ h s. subst (λ (x : At g.meanings l.number). g.stands new l.number (confirmed_in g.meanings l.number r.stream (booking_at r l) x h)) a.same
+        (z.stay _ (b.onward h (a.stay h s)));
+  }
 
-  -- The hold itself is refused.
-  pub refused-here : (size : ℕ) (sound : Sound size at legs) (was is : Standing f) (old new : States f) (w : Result Note BookFault) (d : LegFault)
-      → w ≡ (hold_of (old number).book stream booking).0 → Changed f number (Hold stream booking) was is old new → Err d ≡ placed {X = Note} at w
-      → RefusedAt f was is old new stream longest quota at legs d.place d.fault
-  refused-here size sound was is old new (Ok n) d a c e = nope (cc)
-  refused-here size sound was is old new (Err g) d a c e =
-      let i : d ≡ record { place = at; fault = g } = cc in
-      subst (λ (v : LegFault). RefusedAt f was is old new stream longest quota at legs v.place v.fault) (sym i) (record {
-        same = each (λ j. (h : History (f j)) → was j h → new j ≡ old j) number
-            (λ h s. c.here h s ∙ hold-refused (f number).loads (f number).rules (old number) stream booking g (sym a)) (λ j z h s. c.others j z);
-        off = λ k o. c.others k (λ z. o at (le_refl _) h (sym z));
-        from = le_refl _;
-        below = h;
-        says = sym a;
-        undone = λ i l b. absurd (omega arith);
-        tried = c.onward;
-        untried = λ i l b. c.stay (leg_at legs i).number (later size at legs h sound i (let j : at + 1 ≤ i = omega arith in j) b);
-        stay = λ k o. c.stay k (λ z. o at (le_refl _) h (sym z));
-      })
+  module _ (r : Request) (leg : Leg) (rest : List Leg) (sound : Sound g.size (leg ∷ rest)) where
+    -- The module of the leg, and what is booked there.
+    abbrev number : ℕ
+    number = leg.number
 
-  -- The modules stand after histories before the hold, after it, and after the rest of the path.
-  module _ (size : ℕ) (sound : Sound size at legs) (was then fars : Standing f) (old mid far : States f) (n : Note)
-      (taken : (hold_of (old number).book stream booking).0 ≡ Ok n) (c : Changed f number (Hold stream booking) was then old mid) (good : held_by (mid number).book n ≡ true) where
-    good-held : (h : History (f number)) → was number h → held_by (step (old number) (Hold stream booking)).book n ≡ true
-    good-held h s = subst (λ (z : At). held_by z.book n ≡ true) (c.here h s) good
+    abbrev booking : Booking
+    booking = booking_at r leg
 
-    named : n ≡ note_of (old number).book stream
-    named = (hold-taken-says (old number).book stream booking n taken).note
+    -- The leg's module after a call.
+    abbrev step : At g.meanings number → Call (g.meanings number).Load → At g.meanings number
+    step a call = called g.meanings number a call
 
-    not-later : (i : ℕ) → at + 1 ≤ i → i < length legs → (leg_at legs i).number ≡ number → ⊥
-    not-later i a b e = later size at legs h sound i a b e
+    pub sound-rest : Sound g.size rest
+    sound-rest = record { there = λ i b. sound.there (suc i) (omega arith); apart = λ i j l b. sound.apart (suc i) (suc j) (omega arith) (omega arith) }
 
-    -- A module that no leg from here on names, is none of the later ones' and not this one's.
-    beyond : (k : ℕ) → ((i : ℕ) → at ≤ i → i < length legs → (leg_at legs i).number ≡ k → ⊥)
-        → (k ≡ number → ⊥) × ((i : ℕ) → at + 1 ≤ i → i < length legs → (leg_at legs i).number ≡ k → ⊥)
-    beyond k o = (λ z. o at (le_refl _) h (sym z), λ i j b z. let l : at ≤ i = omega arith in o i l b z)
+    -- No later leg names the leg's module.
+    later : (i : ℕ) → i < length rest → (leg_at rest i).number ≡ number → ⊥
+    later i b e = sound.apart 0 (suc i) (omega arith) (omega arith) (sym e)
 
-    -- The rest was booked: the module is still as after its hold, and its note is good.
-    module _ (rest : Booked f then fars mid far stream longest quota (at + 1) legs) where
-      kept : far number ≡ mid number
-      kept = rest.off number not-later
+    -- A module that no leg names is not this one's, and no later leg names it.
+    beyond : (k : ℕ) → Unnamed (leg ∷ rest) k → (k ≡ number → ⊥) × Unnamed rest k
+    beyond k o = (λ z. o 0 (omega arith) (sym z), λ i b z. o (suc i) (omega arith) z)
 
-      pub confirms : held_by (far number).book n ≡ true
-      confirms = subst (λ (z : At). held_by z.book n ≡ true) (sym kept) good
+    -- The hold itself is refused.
+    pub refused-here : (b : Booking) → b ≡ booking → (old new : B) (f : BookFault) → (hold_of (g.states old number).book r.stream b).0 ≡ Err f → Goes number (Hold r.stream b) old new
+        → RefusedAt g old new r (leg ∷ rest) 0 f
+    refused-here b i old new f a d =
+        let c = subst (λ (x : Booking). Goes number (Hold r.stream x) old new) i d in
+        let says : (hold_of (g.states old number).book r.stream booking).0 ≡ Err f = subst (λ (x : Booking). (hold_of (g.states old number).book r.stream x).0 ≡ Err f) i a in
+        record {
+          same = each (λ j. (h : History (g.meanings j)) → g.stands old j h → g.states new j ≡ g.states old j) number
+              (λ h s. c.here.next h s ∙ hold-refused (g.meanings number).loads (g.meanings number).rules (g.states old number) r.stream booking f says) (λ j z h s. c.others j z);
+          below = omega arith;
+          says = says;
+          undone = λ i b. absurd (omega arith);
+          tried = c.here.onward;
+          untried = untried;
+          off = λ k o. aside c k (beyond k o).0;
+        }
+      where
+        untried : (i : ℕ) → 0 < i → i < length (leg ∷ rest) → (h : History (g.meanings (leg_at (leg ∷ rest) i).number))
+            → g.stands old (leg_at (leg ∷ rest) i).number h → g.stands new (leg_at (leg ∷ rest) i).number h
+        untried zero l b = absurd (omega arith)
+        untried (suc i) l b = d.stay (leg_at rest i).number (later i (omega arith))
 
-      module _ (is : Standing f) (new : States f) (d : Changed f number (Confirm n) fars is far new) where
-        held-far : (h : History (f number)) → was number h → fars number (and_then (f number) h (Hold stream booking))
-        held-far h s = rest.stay number not-later (and_then (f number) h (Hold stream booking)) (c.onward h s)
+    -- The hold was taken, and its note is good.
+    pub record Took (old mid : B) (n : Note) : Type 0 where
+      pub taken : (hold_of (g.states old number).book r.stream booking).0 ≡ Ok n
+      pub call : Goes number (Hold r.stream booking) old mid
+      pub good : held_by (g.states mid number).book n ≡ true
 
-        confirmed : (h : History (f number)) → was number h → new number ≡ step (step (old number) (Hold stream booking)) (Confirm n)
-        confirmed h s = d.here (and_then (f number) h (Hold stream booking)) (held-far h s) ∙ ap (λ (z : At). step z (Confirm n)) (kept ∙ c.here h s)
+    -- From the booking that was made, the answer of the hold, and what became of that.
+    pub taken-leg : (b : Booking) → b ≡ booking → (old mid : B) (w : Result Note BookFault) → w ≡ (hold_of (g.states old number).book r.stream b).0 → Goes number (Hold r.stream b) old mid
+        → IfOk w (λ note. held_by (g.states mid number).book note ≡ true)
+        → (P : BookFault → Type 0) (m : Result Note LegFault) → MatchResult w (λ x. m ≡ Ok x) P → is_ok m ≡ is_ok w → (n : Note) → m ≡ Ok n → Took old mid n
+    taken-leg b i old mid w a c good P m cases same n was =
+        let t = held-from P w m n cases same was in
+        record {
+          taken = subst (λ (x : Booking). (hold_of (g.states old number).book r.stream x).0 ≡ Ok n) i (sym a ∙ t);
+          call = subst (λ (x : Booking). Goes number (Hold r.stream x) old mid) i c;
+          good = IfOk-at_ok (λ note. held_by (g.states mid number).book note ≡ true) t good;
+        }
 
-        here : (h : History (f number)) → was number h → new number ≡ booked f number stream booking (old number)
-        here h s = confirmed h s ∙ ap (λ (x : Note). step (step (old number) (Hold stream booking)) (Confirm x)) named
+    module _ (old mid far : B) (n : Note) (held : Took old mid n) where
+      good-held : (h : History (g.meanings number)) → g.stands old number h → held_by (step (g.states old number) (Hold r.stream booking)).book n ≡ true
+      good-held h s = subst (λ (z : At g.meanings number). held_by z.book n ≡ true) (held.call.here.next h s) held.good
 
-        onward-here : (h : History (f number)) → was number h → is number (confirmed_in f number stream booking (old number) h)
-        onward-here h s = subst (λ (x : Note). is number (and_then (f number) (and_then (f number) h (Hold stream booking)) (Confirm x))) named
-            (d.onward (and_then (f number) h (Hold stream booking)) (held-far h s))
+      named : n ≡ note_of (g.states old number).book r.stream
+      named = (hold-taken-says (g.states old number).book r.stream booking n held.taken).note
 
-        -- What holds of this leg and of the later ones holds of all from here on.
-        from-here : (P : ℕ → Type 0) → P at → ((i : ℕ) → at + 1 ≤ i → i < length legs → P i) → (i : ℕ) → at ≤ i → i < length legs → P i
-        from-here P p o i j b = elim (eq-or-lt_of_le j) [ inl e ↦ subst P e p | inr l ↦ let k : at + 1 ≤ i = omega arith in o i k b ]
+      -- The rest left the module as it was after the hold: its note is still good.
+      module _ (kept : Untouched g mid far number) where
+        still-good : held_by (g.states far number).book n ≡ true
+        still-good = subst (λ (z : At g.meanings number). held_by z.book n ≡ true) (sym kept.same) held.good
 
-        pub booked-leg : Booked f was is old new stream longest quota at legs
-        booked-leg = record {
-          took = from-here (λ i. (hold_of (old (leg_at legs i).number).book stream (booking_at longest quota (leg_at legs i))).0 ≡ Ok (note_of (old (leg_at legs i).number).book stream))
-              (taken ∙ ap (λ (x : Note). Ok x) named)
-              (λ i j b. subst (λ (z : State (f (leg_at legs i).number).Load (f (leg_at legs i).number).Record). (hold_of z.book stream (booking_at longest quota (leg_at legs i))).0 ≡ Ok (note_of z.book stream))
-              (before i j b) (rest.took i j b));
-          on = from-here (λ i. (h : History (f (leg_at legs i).number)) → was (leg_at legs i).number h
-              → new (leg_at legs i).number ≡ booked f (leg_at legs i).number stream (booking_at longest quota (leg_at legs i)) (old (leg_at legs i).number))
-              here
-              (λ i j b h s. away i j b ∙ rest.on i j b h (c.stay (leg_at legs i).number (not-later i j b) h s)
-              ∙ ap (booked f (leg_at legs i).number stream (booking_at longest quota (leg_at legs i))) (before i j b));
-          live = from-here (λ i. (h : History (f (leg_at legs i).number)) → was (leg_at legs i).number h
-              → row_of (new (leg_at legs i).number).book stream ≡ Live (booking_at longest quota (leg_at legs i)))
-              (λ h s. ap (λ (z : At). row_of z.book stream) (confirmed h s) ∙ row-live (f number).loads (f number).rules (old number) stream booking n taken (good-held h s))
-              (λ i j b h s. ap (λ (z : State (f (leg_at legs i).number).Load (f (leg_at legs i).number).Record). row_of z.book stream) (away i j b)
-              ∙ rest.live i j b h (c.stay (leg_at legs i).number (not-later i j b) h s));
-          onward = from-here (λ i. (h : History (f (leg_at legs i).number)) → was (leg_at legs i).number h
-              → is (leg_at legs i).number (confirmed_in f (leg_at legs i).number stream (booking_at longest quota (leg_at legs i)) (old (leg_at legs i).number) h))
-              onward-here
-              (λ i j b h s. subst (λ (z : State (f (leg_at legs i).number).Load (f (leg_at legs i).number).Record). is (leg_at legs i).number (confirmed_in f (leg_at legs i).number stream (booking_at longest quota (leg_at legs i)) z h))
-              (before i j b) (d.stay (leg_at legs i).number (not-later i j b) _ (rest.onward i j b h (c.stay (leg_at legs i).number (not-later i j b) h s))));
-          off = λ k o. let e = beyond k o in d.others k e.0 ∙ rest.off k e.1 ∙ c.others k e.0;
-          stay = λ k o h s. let e = beyond k o in d.stay k e.0 h (rest.stay k e.1 h (c.stay k e.0 h s));
+        held-far : (h : History (g.meanings number)) → g.stands old number h → g.stands far number (and_then (g.meanings number) h (Hold r.stream booking))
+        held-far h s = kept.stay (and_then (g.meanings number) h (Hold r.stream booking)) (held.call.here.onward h s)
+
+        -- The module after a call with the note.
+        spent : (call : Call (g.meanings number).Load) (new : B) → Goes number call far new → (h : History (g.meanings number)) → g.stands old number h
+            → g.states new number ≡ step (step (g.states old number) (Hold r.stream booking)) call
+        spent call new d h s = d.here.next (and_then (g.meanings number) h (Hold r.stream booking)) (held-far h s) ∙ ap (λ (z : At g.meanings number). step z call) (kept.same ∙ held.call.here.next h s)
+
+        booked-here : (new : B) → Goes number (Confirm n) far new → LegBooked g old new r leg
+        booked-here new d = record {
+          took = held.taken ∙ ap (λ (x : Note). Ok x) named;
+          on = λ h s. spent (Confirm n) new d h s ∙ ap (λ (x : Note). step (step (g.states old number) (Hold r.stream booking)) (Confirm x)) named;
+          live = λ h s. ap (λ (z : At g.meanings number). row_of z.book r.stream) (spent (Confirm n) new d h s)
+              ∙ row-live (g.meanings number).loads (g.meanings number).rules (g.states old number) r.stream booking n held.taken (good-held h s);
+          onward = λ h s. subst (λ (x : Note). g.stands new number (and_then (g.meanings number) (and_then (g.meanings number) h (Hold r.stream booking)) (Confirm x))) named
+              (d.here.onward (and_then (g.meanings number) h (Hold r.stream booking)) (held-far h s));
+        }
+
+      -- The rest was booked.
+      module _ (done : Booked g mid far r rest) where
+        kept-booked : Untouched g mid far number
+        kept-booked = done.off number later
+
+        pub good-booked : held_by (g.states far number).book n ≡ true
+        good-booked = still-good kept-booked
+
+        pub booked-leg : (new : B) → Goes number (Confirm n) far new → Booked g old new r (leg ∷ rest)
+        booked-leg new d = record {
+          legs_booked = booked-at;
+          off = λ k o. let e = beyond k o in through (aside held.call k e.0) (through (done.off k e.1) (aside d k e.0));
         }
           where
-            away : (i : ℕ) → at + 1 ≤ i → i < length legs → new (leg_at legs i).number ≡ far (leg_at legs i).number
-            away i l b = d.others (leg_at legs i).number (not-later i l b)
+            booked-at : (i : ℕ) → i < length (leg ∷ rest) → LegBooked g old new r (leg_at (leg ∷ rest) i)
+            booked-at zero b = booked-here kept-booked new d
+            booked-at (suc i) b =
+                let l : i < length rest = omega arith in
+                between r (leg_at rest i) (aside held.call (leg_at rest i).number (later i l)) (aside d (leg_at rest i).number (later i l)) (done.legs_booked i l)
 
-            before : (i : ℕ) → at + 1 ≤ i → i < length legs → mid (leg_at legs i).number ≡ old (leg_at legs i).number
-            before i l b = c.others (leg_at legs i).number (not-later i l b)
+      -- The rest was refused: the drop of the note gives every module back as it was.
+      module _ (p : ℕ) (f : BookFault) (no : RefusedAt g mid far r rest p f) where
+        kept-refused : Untouched g mid far number
+        kept-refused = no.off number later
 
-    -- The rest was refused: the note is good, and its drop gives every module back as it was.
-    module _ (p : ℕ) (g : BookFault) (rest : RefusedAt f then fars mid far stream longest quota (at + 1) legs p g) where
-      pub drops : held_by (far number).book n ≡ true
-      drops = subst (λ (z : At). held_by z.book n ≡ true) (sym (rest.off number not-later)) good
+        pub good-refused : held_by (g.states far number).book n ≡ true
+        good-refused = still-good kept-refused
 
-      pub refused-later : (is : Standing f) (new : States f) → Changed f number (DropHold n) fars is far new → RefusedAt f was is old new stream longest quota at legs p g
-      refused-later is new d = record {
-        same = each (λ j. (h : History (f j)) → was j h → new j ≡ old j) number
-            (λ h s. d.here (and_then (f number) h (Hold stream booking)) (held-far h s) ∙ ap (λ (z : At). step z (DropHold n)) (rest.off number not-later ∙ c.here h s)
-            ∙ drop-back (f number).loads (f number).rules (old number) stream booking n taken (good-held h s))
-            (λ j e h s. d.others j e ∙ rest.same j h (c.stay j e h s) ∙ c.others j e);
-        off = λ k o. let e = beyond k o in d.others k e.0 ∙ rest.off k e.1 ∙ c.others k e.0;
-        from = let l : at ≤ p = omega (arith, rest.from) in l;
-        below = rest.below;
-        says = ap (λ (z : State (f (leg_at legs p).number).Load (f (leg_at legs p).number).Record). (hold_of z.book stream (booking_at longest quota (leg_at legs p))).0)
-            (sym (c.others (leg_at legs p).number (not-later p rest.from rest.below))) ∙ rest.says;
-        undone = λ i j b. undone i b (eq-or-lt_of_le j);
-        tried = λ h s. d.stay (leg_at legs p).number (not-later p rest.from rest.below) _ (rest.tried h (c.stay (leg_at legs p).number (not-later p rest.from rest.below) h s));
-        untried = λ i l b h s.
-            let j : at + 1 ≤ i = omega (arith, rest.from) in
-            d.stay (leg_at legs i).number (not-later i j b) h (rest.untried i l b h (c.stay (leg_at legs i).number (not-later i j b) h s));
-        stay = λ k o h s. let e = beyond k o in d.stay k e.0 h (rest.stay k e.1 h (c.stay k e.0 h s));
-      }
-        where
-          held-far : (h : History (f number)) → was number h → fars number (and_then (f number) h (Hold stream booking))
-          held-far h s = rest.stay number not-later (and_then (f number) h (Hold stream booking)) (c.onward h s)
+        pub refused-later : (new : B) → Goes number (DropHold n) far new → RefusedAt g old new r (leg ∷ rest) (suc p) f
+        refused-later new d = record {
+          same = each (λ j. (h : History (g.meanings j)) → g.stands old j h → g.states new j ≡ g.states old j) number
+              (λ h s. spent kept-refused (DropHold n) new d h s
+              ∙ drop-back (g.meanings number).loads (g.meanings number).rules (g.states old number) r.stream booking n held.taken (good-held h s))
+              (λ j e h s. d.others j e ∙ no.same j h (held.call.stay j e h s) ∙ held.call.others j e);
+          below = omega (arith, no.below);
+          says = subst (λ (z : At g.meanings (leg_at rest p).number). (hold_of z.book r.stream (booking_at r (leg_at rest p))).0 ≡ Err f) (held.call.others (leg_at rest p).number (later p no.below)) no.says;
+          undone = undone;
+          tried = λ h s. d.stay (leg_at rest p).number (later p no.below) _ (no.tried h (held.call.stay (leg_at rest p).number (later p no.below) h s));
+          untried = untried;
+          off = λ k o. let e = beyond k o in through (aside held.call k e.0) (through (no.off k e.1) (aside d k e.0));
+        }
+          where
+            undone : (i : ℕ) → i < suc p → (h : History (g.meanings (leg_at (leg ∷ rest) i).number)) → g.stands old (leg_at (leg ∷ rest) i).number h
+                → g.stands new (leg_at (leg ∷ rest) i).number
+                (dropped_in g.meanings (leg_at (leg ∷ rest) i).number r.stream (booking_at r (leg_at (leg ∷ rest) i)) (g.states old (leg_at (leg ∷ rest) i).number) h)
+            undone zero b h s = subst (λ (x : Note). g.stands new number (and_then (g.meanings number) (and_then (g.meanings number) h (Hold r.stream booking)) (DropHold x))) named
+                (d.here.onward (and_then (g.meanings number) h (Hold r.stream booking)) (held-far kept-refused h s))
+            undone (suc i) b h s =
+                let l : i < p = omega arith in
+                let m : i < length rest = omega (arith, no.below) in
+                let k = leg_at rest i in
+                subst (λ (z : At g.meanings k.number). g.stands new k.number (dropped_in g.meanings k.number r.stream (booking_at r k) z h)) (held.call.others k.number (later i m))
+                (d.stay k.number (later i m) _ (no.undone i l h (held.call.stay k.number (later i m) h s)))
 
-          undone : (i : ℕ) → i < p → (at ≡ i) ⊎ (at < i) → (h : History (f (leg_at legs i).number)) → was (leg_at legs i).number h
-              → is (leg_at legs i).number (dropped_in f (leg_at legs i).number stream (booking_at longest quota (leg_at legs i)) (old (leg_at legs i).number) h)
-          undone i b (inl e) = subst (λ j. (h : History (f (leg_at legs j).number)) → was (leg_at legs j).number h
-              → is (leg_at legs j).number (dropped_in f (leg_at legs j).number stream (booking_at longest quota (leg_at legs j)) (old (leg_at legs j).number) h)) e
-              (λ h s. subst (λ (x : Note). is number (and_then (f number) (and_then (f number) h (Hold stream booking)) (DropHold x))) named
-              (d.onward (and_then (f number) h (Hold stream booking)) (held-far h s)))
-          undone i b (inr l) = λ h s.
-              let j : at + 1 ≤ i = omega arith in
-              let m : i < length legs = omega (arith, rest.below) in
-              subst (λ (z : State (f (leg_at legs i).number).Load (f (leg_at legs i).number).Record). is (leg_at legs i).number (dropped_in f (leg_at legs i).number stream (booking_at longest quota (leg_at legs i)) z h))
-              (c.others (leg_at legs i).number (not-later i j m))
-              (d.stay (leg_at legs i).number (not-later i j m) _ (rest.undone i j b h (c.stay (leg_at legs i).number (not-later i j m) h s)))
+            untried : (i : ℕ) → suc p < i → i < length (leg ∷ rest) → (h : History (g.meanings (leg_at (leg ∷ rest) i).number))
+                → g.stands old (leg_at (leg ∷ rest) i).number h → g.stands new (leg_at (leg ∷ rest) i).number h
+            untried zero l b h s = absurd (omega arith)
+            untried (suc i) l b h s =
+                let q : p < i = omega arith in
+                let m : i < length rest = omega arith in
+                let k = leg_at rest i in
+                d.stay k.number (later i m) h (no.untried i q m h (held.call.stay k.number (later i m) h s))

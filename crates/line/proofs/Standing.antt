@@ -1,17 +1,21 @@
--- A port that stands after a history is, after a call by the rules, in the state that the call leaves, and stands after one call more.
-use Rattle.std.proofs.Common.{◌≡◌, ℕ, List, ◌∷◌, sym, ap, ◌∙◌}
-use Rattle.book.specs.Told.{SetNumbers}
+-- A port that stands after a history takes a call by the rules as a module does.
+use Rattle.std.proofs.Common.{sym, ap, ◌∙◌}
 use Rattle.schedule.specs.Modules.{State}
 use Rattle.schedule.specs.Histories.{Call, Answer, next_of, after}
+use Rattle.placers.specs.Placers.{Duties}
 use Rattle.port.specs.declared.ports.Port.{Port}
 use Rattle.port.specs.Standing as standing
 use Rattle.port.specs.Standing.{module_of, parts_of, Stands, ByRules}
+use Rattle.line.specs.Banks.{Meaning, Takes}
 
-module _ {R P L Record : Type 0} (m : standing.Meaning R P L Record) (call : Call L) (was is : Port R P) (r : Answer L) (went : ByRules m call was is r)
-    (s : SetNumbers) (begun : ℕ → Record) (h : List (Call L)) (stood : Stands m.loads m.rules s begun h (parts_of m was)) where
-  pub stands_on : Stands m.loads m.rules s begun (call ∷ h) (parts_of m is)
-  stands_on = (went s begun h stood).stands
+module _ {R P L Record : Type 0} (m : standing.Meaning R P L Record) (duties : Duties m.rules) where
+  abbrev kind : Meaning
+  kind = record { Load = L; Record = Record; loads = m.loads; rules = m.rules; duties = duties }
 
-  pub state-next : module_of m is ≡ next_of m.loads m.rules (module_of m was) call
+  pub takes : (call : Call L) (was is : Port R P) (r : Answer L) → ByRules m call was is r
+      → Takes kind call (λ h. Stands m.loads m.rules h.told h.begun h.calls (parts_of m was)) (λ h. Stands m.loads m.rules h.told h.begun h.calls (parts_of m is)) (module_of m was) (module_of m is)
   unfolding after
-  state-next = (went s begun h stood).stands.state ∙ ap (λ (a : State L Record). next_of m.loads m.rules a call) (sym stood.state)
+  takes call was is r went = record {
+    next = λ h s. (went h.told h.begun h.calls s).stands.state ∙ ap (λ (a : State L Record). next_of m.loads m.rules a call) (sym s.state);
+    onward = λ h s. (went h.told h.begun h.calls s).stands;
+  }

@@ -70,9 +70,13 @@ abbrev pub stand_ahead : (m : Meaning) (f : ℕ → Meaning) → (History m → 
 stand_ahead m f first rest zero = first
 stand_ahead m f first rest (suc k) = rest k
 
--- A call on module k. Wherever it stood, it is as the rules say after the call, and stands after one call more; no other module changes.
+-- A call on a module: wherever it stood, it is as the rules say after the call, and stands after one call more.
+pub record Takes (m : Meaning) (call : Call m.Load) (was is : History m → Type 0) (old new : State m.Load m.Record) : Type 0 where
+  pub next : (h : History m) → was h → new ≡ next_of m.loads m.rules old call
+  pub onward : (h : History m) → was h → is (and_then m h call)
+
+-- A call on module k of a bank; no other module changes.
 pub record Changed (f : ℕ → Meaning) (k : ℕ) (call : Call (f k).Load) (was is : Standing f) (old new : States f) : Type 0 where
-  pub here : (h : History (f k)) → was k h → new k ≡ called f k (old k) call
-  pub onward : (h : History (f k)) → was k h → is k (and_then (f k) h call)
+  pub here : Takes (f k) call (was k) (is k) (old k) (new k)
   pub others : (j : ℕ) → (j ≢ k) → new j ≡ old j
   pub stay : (j : ℕ) → (j ≢ k) → (h : History (f j)) → was j h → is j h

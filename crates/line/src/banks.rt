@@ -7,7 +7,7 @@ ghost use Rattle.line.specs.Banks.{Meaning, States, Standing, ahead, state_ahead
 use crate::modules::Module;
 use book::faults::BookFault;
 use book::ledger::Note;
-use book::rows::Booking;
+use book::rows::{Booking, LAST_STREAM};
 use book::setup::Class;
 
 // Modules told by their numbers, from 0, as nested pairs. A call says what it does to the module named, and that no other
@@ -29,6 +29,7 @@ pub trait Bank {
     fn class(&self, number: u8, class: u8) -> Option<Class>
         ensures { result ≡ class_at (states self.now number).book.settings class };
 
+    // The clauses spell out histories and states before and after: a trait cannot import a definition over its own members.
     fn hold(&mut self, number: u8, stream: u8, booking: Booking) -> Result<Note, BookFault>
         ensures answer { result ≡ (hold_of (states self.old number).book stream booking).0 }
         ensures next { Changed meanings number (Hold stream booking) (stands self.old) (stands self.new) (states self.old) (states self.new) }
@@ -78,7 +79,7 @@ impl Bank for () {
     }
 
     fn release(&mut self, _number: u8, stream: u8) -> Result<u64, BookFault> {
-        if stream > 127 {
+        if stream > LAST_STREAM {
             Err(BookFault::NotThere)
         } else {
             Err(BookFault::WrongState)
@@ -86,7 +87,7 @@ impl Bank for () {
     }
 }
 
-// A module ahead of a bank.
+// A module ahead of a bank: number 0 is the module's, and a later one is the bank's, with one less.
 impl<M: Module, B: Bank> Bank for (M, B) {
     ghost size = { suc B.Bank.size };
 

@@ -1,18 +1,18 @@
 ghost use Rattle.std.specs.Prelude.{◌≡◌};
 ghost use Rattle.line.specs.declared.faults.LineFault.TheVariants.{AtLeg};
-ghost use Rattle.line.specs.Faults.{number_of, placed};
+ghost use Rattle.line.specs.Faults.{number_of};
 
 use book::faults::BookFault;
 
 // A hold that a leg's book refused: the place of the leg on the path, from 0, and the book's fault.
-#[derive(Clone, Copy)]
+#[derive(Clone, Copy, PartialEq, Eq, Debug)]
 pub struct LegFault {
     pub place: usize,
     pub fault: BookFault,
 }
 
 // Why a path is not booked.
-#[derive(Clone, Copy)]
+#[derive(Clone, Copy, PartialEq, Eq, Debug)]
 pub enum LineFault {
     // The legs are not 1 to 16, a module is not there or comes twice, or cycle times differ.
     NoPath,
@@ -37,15 +37,5 @@ impl From<LegFault> for LineFault {
 
     fn from(e: LegFault) -> LineFault {
         LineFault::AtLeg(e)
-    }
-}
-
-// A book's answer, its fault with the leg's place.
-pub(crate) fn at_leg<T>(answer: Result<T, BookFault>, place: usize) -> Result<T, LegFault>
-    ensures { result ≡ placed place answer }
-{
-    match answer {
-        Ok(value) => Ok(value),
-        Err(fault) => Err(LegFault { place, fault }),
     }
 }

@@ -1,117 +1,68 @@
-ghost use Rattle.std.specs.Prelude.{◌≡◌, ℕ, ◌<◌, ◌≤◌, true, false, length, MatchBool, MatchResult, ◌≢◌};
-ghost use Rattle.line.specs.Paths.{leg_at, differ, class_on, Sound, Travels, Booked, RefusedAt, PathAnswer};
+ghost use Rattle.std.specs.Prelude.{◌≡◌, MatchBool, MatchResult};
+ghost use Rattle.line.specs.Paths.{differ, Follows, Sound, Travels, Booked, RefusedAt, PathAnswer};
 
 use crate::banks::Bank;
-use crate::faults;
 use crate::faults::{LegFault, LineFault};
-use crate::legs::Leg;
-use book::rows::Booking;
+use crate::legs::{Leg, Request};
 use book::setup::Class;
 
 const MOST_LEGS: usize = 16;
 
-// Books the legs from `at` on, or leaves every module as it was. The note of a leg is held while the rest is booked.
-fn book_from<B: Bank>(
-    bank: &mut B,
-    stream: u8,
-    longest: u16,
-    quota: u32,
-    legs: &[Leg],
-    at: usize,
-) -> Result<(), LegFault>
-    requires { Sound B.Bank.size at legs.now }
+// Books the legs, or leaves every module as it was. The note of a leg is held while the rest is booked.
+fn book_legs<B: Bank>(bank: &mut B, request: Request, legs: &[Leg]) -> Result<(), LegFault>
+    requires { Sound B.Bank.size legs.now }
     ensures { MatchResult result
-        (λ _. Booked B.Bank.meanings (B.Bank.stands bank.old) (B.Bank.stands bank.new) (B.Bank.states bank.old) (B.Bank.states bank.new) stream longest quota at legs.now)
-        (λ e. RefusedAt B.Bank.meanings (B.Bank.stands bank.old) (B.Bank.stands bank.new) (B.Bank.states bank.old) (B.Bank.states bank.new) stream longest quota at legs.now e.place e.fault) }
+        (λ _. Booked B.Bank bank.old bank.new request legs.now)
+        (λ e. RefusedAt B.Bank bank.old bank.new request legs.now e.place e.fault) }
 {
-    if at >= legs.len() {
+    let Some((leg, rest)) = legs.split_first() else {
         return Ok(());
-    }
-    let leg = legs[at];
-    let booking = Booking {
-        input: leg.input,
-        class: leg.class,
-        longest,
-        quota,
     };
-    let note = faults::at_leg(bank.hold(leg.number, stream, booking), at)?;
-    match book_from(bank, stream, longest, quota, legs, at + 1) {
+    let note = bank
+        .hold(leg.number, request.stream, request.booking(leg))
+        .map_err(|fault| LegFault { place: 0, fault })?;
+    match book_legs(bank, request, rest) {
         Ok(()) => match bank.confirm(leg.number, note) {
             Ok(()) => Ok(()),
             Err(_) => unreachable(),
         },
-        Err(fault) => match bank.drop_hold(leg.number, note) {
-            Ok(()) => Err(fault),
+        Err(later) => match bank.drop_hold(leg.number, note) {
+            Ok(()) => Err(LegFault {
+                place: later.place + 1,
+                fault: later.fault,
+            }),
             Err(_) => unreachable(),
         },
     }
-}
-
-// A leg before `end` names the module.
-fn is_named(legs: &[Leg], end: usize, number: u8) -> bool
-    requires { end ≤ length legs.now }
-    ensures { MatchBool result
-        ((i : ℕ) × (i < end) × ((leg_at legs.now i).number ≡ number))
-        ((i : ℕ) → i < end → (leg_at legs.now i).number ≢ number) }
-{
-    for i in 0..end {
-        if legs[i].number == number {
-            return true;
-        }
-    }
-    false
 }
 
 // Both classes are there, and their cycle times differ.
 fn is_apart(a: Option<Class>, b: Option<Class>) -> bool
     ensures { result ≡ differ a b }
 {
-    match a {
-        None => false,
-        Some(a) => match b {
-            None => false,
-            Some(b) => a.cycle != b.cycle,
-        },
-    }
+    a.zip(b).is_some_and(|(a, b)| a.cycle != b.cycle)
 }
 
-// No leg before `end` has a cycle time that differs from this one.
-fn is_alike<B: Bank>(bank: &B, legs: &[Leg], end: usize, class: Option<Class>) -> bool
-    requires { end ≤ length legs.now }
-    ensures { MatchBool result
-        ((i : ℕ) → i < end → differ (class_on B.Bank.meanings (B.Bank.states bank.now) legs.now i) class ≡ false)
-        ((i : ℕ) × (i < end) × (differ (class_on B.Bank.meanings (B.Bank.states bank.now) legs.now i) class ≡ true)) }
+// The leg's module is there and none of those of the legs before, and its cycle time differs from none of theirs.
+fn follows<B: Bank>(bank: &B, before: &[Leg], leg: &Leg) -> bool
+    ensures { MatchBool result (Follows B.Bank bank.now before.now leg.now) (Follows B.Bank bank.now before.now leg.now → ⊥) }
 {
-    for i in 0..end {
-        let leg = legs[i];
-        if is_apart(bank.class(leg.number, leg.class), class) {
-            return false;
-        }
-    }
-    true
+    let class = bank.class(leg.number, leg.class);
+    bank.has(leg.number)
+        && before.iter().all(|other| other.number != leg.number
+            && !is_apart(bank.class(other.number, other.class), class))
 }
 
 // The line has such a path.
 fn travels<B: Bank>(bank: &B, legs: &[Leg]) -> bool
-    ensures { MatchBool result
-        (Travels B.Bank.meanings B.Bank.size (B.Bank.states bank.now) legs.now)
-        (Travels B.Bank.meanings B.Bank.size (B.Bank.states bank.now) legs.now → ⊥) }
+    ensures { MatchBool result (Travels B.Bank bank.now legs.now) (Travels B.Bank bank.now legs.now → ⊥) }
 {
-    if legs.len() < 1 {
+    if !(1..=MOST_LEGS).contains(&legs.len()) {
         return false;
     }
-    if legs.len() > MOST_LEGS {
-        return false;
-    }
-    for i in 0..legs.len() {
-        let leg = legs[i];
-        if !bank.has(leg.number) {
-            return false;
-        }
-        if is_named(legs, i, leg.number) {
-            return false;
-        }
-        if !is_alike(bank, legs, i, bank.class(leg.number, leg.class)) {
+    // The place of a leg tells which are before it.
+    for (i, leg) in legs.iter().enumerate() {
+        if !follows(bank, &legs[..i], leg) {
             return false;
         }
     }
@@ -119,18 +70,12 @@ fn travels<B: Bank>(bank: &B, legs: &[Leg]) -> bool
 }
 
 // Books a path: holds the same longest frame and quota at each leg and confirms all, or leaves every module as it was.
-pub fn book_path<B: Bank>(
-    bank: &mut B,
-    stream: u8,
-    longest: u16,
-    quota: u32,
-    legs: &[Leg],
-) -> Result<(), LineFault>
-    ensures { PathAnswer B.Bank.meanings B.Bank.size (B.Bank.stands bank.old) (B.Bank.stands bank.new) (B.Bank.states bank.old) (B.Bank.states bank.new) stream longest quota legs.now result }
+pub fn book_path<B: Bank>(bank: &mut B, request: Request, legs: &[Leg]) -> Result<(), LineFault>
+    ensures { PathAnswer B.Bank bank.old bank.new request legs.now result }
 {
     if !travels(bank, legs) {
         return Err(LineFault::NoPath);
     }
-    book_from(bank, stream, longest, quota, legs, 0)?;
+    book_legs(bank, request, legs)?;
     Ok(())
 }

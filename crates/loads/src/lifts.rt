@@ -19,11 +19,11 @@ pub enum Hook {
 pub struct LiftRow {
     stream: u8,
     pick: u32,
-    hooks: [Hook; 64],
+    hooks: [Hook; HOOKS],
 }
 
 impl LiftRow {
-    pub fn new(stream: u8, pick: u32, hooks: [Hook; 64]) -> LiftRow
+    pub fn new(stream: u8, pick: u32, hooks: [Hook; HOOKS]) -> LiftRow
         ensures { result ≡ row_of stream pick hooks }
     {
         LiftRow {
@@ -44,11 +44,7 @@ impl LiftRow {
     pub fn hook(&self, number: u8) -> Option<Hook>
         ensures { result ≡ hook_at self.now.hooks number }
     {
-        if (number as usize) < HOOKS {
-            Some(self.hooks[number as usize])
-        } else {
-            None
-        }
+        self.hooks.get(number as usize).copied()
     }
 }
 

@@ -1,5 +1,5 @@
 -- The record that both placers keep of a stream: the last cycle given and the octets given there.
-use Rattle.std.specs.Prelude.{◌≡◌, ℕ, ◌+◌, ◌≤◌, Bool, cond, Ok, Err, Result, nat_le, slice_index_or}
+use Rattle.std.specs.Prelude.{◌≡◌, ℕ, ◌+◌, ◌≤◌, Bool, cond, Ok, Err, Result, nat_le}
 use Rattle.placers.specs.declared.faults.PlacerFault.{PlacerFault}
 use Rattle.placers.specs.declared.faults.PlacerFault.TheVariants.{NoRoom}
 use Rattle.placers.specs.declared.terms.Terms.{Terms}
@@ -7,6 +7,7 @@ use Rattle.placers.specs.declared.terms.Ask.{Ask}
 use Rattle.placers.specs.declared.table.Latest.{Latest}
 use Rattle.placers.specs.declared.table.Table.{Table}
 use Rattle.placers.specs.Terms.{shift_in}
+use Rattle.placers.specs.Tables.{row_in}
 use Rattle.placers.specs.Placers.{Placing, given, refused, Rules, octets_in}
 
 -- A new record: no cycle, no octets.
@@ -14,8 +15,8 @@ abbrev pub unused : Latest
 unused = record { cycle = 0; octets = 0 }
 
 -- The record of each stream of a table.
-abbrev pub records_of : Table → ℕ → Latest
-records_of t s = slice_index_or t.rows s unused
+abbrev pub records_of : Table Latest → ℕ → Latest
+records_of = row_in unused
 
 -- The octets of the stream in a cycle, and whether w more are within the quota.
 abbrev pub held_in : Latest → (cycle : ℕ) → ℕ

@@ -1,6 +1,7 @@
 pub mod Faults
 pub mod Terms
 pub mod Placers
+pub mod Tables
 pub mod Latest
 pub mod Timed
 pub mod Counted

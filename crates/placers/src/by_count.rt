@@ -1,71 +1,42 @@
-ghost use Rattle.std.specs.Prelude.{◌≡◌, ℕ};
-ghost use Rattle.placers.specs.declared.terms.Terms.{Terms};
-ghost use Rattle.placers.specs.declared.table.Latest.{Latest};
-ghost use Rattle.placers.specs.Latest.{unused, records_of};
-ghost use Rattle.placers.specs.Counted.{counted, count_rules, FindsEarliest};
-ghost use Rattle.placers.specs.Keeping.Counts.{count-duties};
+ghost use Rattle.placers.specs.Counted.{counted, FindsEarliest};
+ghost use Rattle.placers.specs.Keeping.Counts.{count-duties, finds-earliest};
 
+use crate::by_rule::{ByRule, Rule};
 use crate::faults::PlacerFault;
-use crate::placer::Placer;
-use crate::table::{Latest, Table};
+use crate::table::Latest;
 use crate::terms::{Ask, Terms};
 use book::ticks::LAST_TICK;
 
-// Places into the earliest cycle that has room, in the same few steps for every frame.
+// Counts the octets in the last cycle: a frame goes into the earliest cycle that has room.
 #[derive(Clone, Copy)]
-pub struct ByCount {
-    table: Table,
-}
+pub struct Counting;
 
-impl ByCount {
-    // All records are new. The rule finds the earliest cycle for every frame.
-    pub fn new() -> ByCount
-        ensures records { (s : ℕ) → records_of result.table s ≡ unused }
-        ensures earliest { (t : Terms) → FindsEarliest t }
-    {
-        ByCount {
-            table: Table::new(),
-        }
-    }
-}
+// Places into the earliest cycle that has room, in the same few steps for every frame.
+pub type ByCount = ByRule<Counting>;
 
-// The record after a frame.
-fn next_by_count(latest: Latest, terms: Terms, ask: Ask) -> Result<Latest, PlacerFault>
-    ensures { result ≡ counted terms latest ask }
-{
-    if ask.clock > LAST_TICK {
-        return Err(PlacerFault::NoRoom);
-    }
-    let current = terms.current(ask.clock);
-    let reach = current + u64::from(terms.bins);
-    let first = latest.first_after(current);
-    if first >= reach {
-        return Err(PlacerFault::NoRoom);
-    }
-    let cycle = latest.earliest(first, ask.octets, ask.quota);
-    if cycle >= reach {
-        return Err(PlacerFault::NoRoom);
-    }
-    latest.add(cycle, ask.octets, ask.quota)
-}
-
-impl Placer for ByCount {
-    ghost Record = { Latest };
-
-    ghost records = { λ p. records_of p.table };
-
-    ghost rules = { count_rules };
+impl Rule for Counting {
+    ghost next = { counted };
 
     ghost duties = { count-duties };
 
-    fn place(&mut self, stream: u8, terms: Terms, ask: Ask) -> Result<u64, PlacerFault> {
-        let latest = self.table.read(stream)?;
-        let next = next_by_count(latest, terms, ask)?;
-        self.table.write(stream, next);
-        Ok(next.cycle())
-    }
+    ghost Promise = { FindsEarliest };
 
-    fn renew(&mut self, stream: u8, _terms: Terms) {
-        self.table.renew(stream);
+    ghost promised = { finds-earliest };
+
+    fn next(latest: Latest, terms: Terms, ask: Ask) -> Result<Latest, PlacerFault> {
+        if ask.clock > LAST_TICK {
+            return Err(PlacerFault::NoRoom);
+        }
+        let current = terms.current(ask.clock);
+        let reach = current + u64::from(terms.bins);
+        let first = latest.first_after(current);
+        if first >= reach {
+            return Err(PlacerFault::NoRoom);
+        }
+        let cycle = latest.earliest(first, ask);
+        if cycle >= reach {
+            return Err(PlacerFault::NoRoom);
+        }
+        latest.add(cycle, ask)
     }
 }

@@ -2,6 +2,7 @@
 #![tactic(auto)]
 
 pub mod by_count;
+pub mod by_rule;
 pub mod by_time;
 pub mod faults;
 pub mod placer;

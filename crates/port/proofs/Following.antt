@@ -1,5 +1,5 @@
 -- From what a call does to the parts of a port to what it does to the history after which the port stands.
-use Rattle.std.proofs.Common.{◌≡◌, ℕ, List, length, Result, sym, refl, ap, ◌∙◌, arith}
+use Rattle.std.proofs.Common.{◌≡◌, ℕ, List, ◌∷◌, length, Result, refl, ap, ◌∙◌, arith}
 use Rattle.book.specs.Told.{SetNumbers}
 use Rattle.book.specs.declared.faults.BookFault.{BookFault}
 use Rattle.book.specs.declared.rows.Booking.{Booking}
@@ -13,13 +13,12 @@ use Rattle.schedule.proofs.Clocks.{settings-kept}
 use Rattle.port.specs.Standing.{Parts, state_in, Stands, Follows}
 
 -- Parts, in their order.
-abbrev pub parts : {L Record : Type 0} → SetNumbers → BookState → (records : ℕ → Record) → (stamps : ℕ → ℕ) → (wire : ℕ)
+abbrev pub parts : {L Record : Type 0} → BookState → (records : ℕ → Record) → (stamps : ℕ → ℕ) → (wire : ℕ)
     → (bins : List (List L)) → (depth total : ℕ) → Parts L Record
-parts s b rs ss w bs d t = record { settings = s; book = b; records = rs; stamps = ss; wire = w; bins = bs; depth = d; total = t }
+parts b rs ss w bs d t = record { book = b; records = rs; stamps = ss; wire = w; bins = bs; depth = d; total = t }
 
--- The settings stay, and the rack keeps its room.
+-- The rack keeps its room.
 pub record Stays {L Record : Type 0} (p q : Parts L Record) : Type 0 where
-  pub settings : q.settings ≡ p.settings
   pub bins : length q.bins ≡ length p.bins
   pub depth : q.depth ≡ p.depth
   pub total : q.total ≡ p.total
@@ -35,10 +34,11 @@ module _ {L Record : Type 0} (loads : Loads L) (m : Rules Record) (call : Call L
       → Follows loads m call p q r
   unfolding after
   follows-standing step s begun h so =
-      let w = step s begun h so in record {
+      let w = step s begun h so in
+      let state = w.next ∙ ap (λ (a : State L Record). next_of loads m a call) so.state in record {
         stands = record {
-          told = stay.settings ∙ so.told;
-          state = w.next ∙ ap (λ (a : State L Record). next_of loads m a call) so.state;
+          told = ap (λ (a : State L Record). a.book.settings) state ∙ settings-kept loads m s begun (call ∷ h);
+          state = state;
           bins = omega (arith, so.bins, stay.bins);
           depth = omega (arith, so.depth, stay.depth);
           total = omega (arith, so.total, stay.total);
@@ -49,19 +49,13 @@ module _ {L Record : Type 0} (loads : Loads L) (m : Rules Record) (call : Call L
   pub follows : Steps loads m call p q r → Follows loads m call p q r
   follows w = follows-standing (λ s begun h so. w)
 
--- The book's settings are the port's.
-pub book-told : {L Record : Type 0} (loads : Loads L) (m : Rules Record) (s : SetNumbers) (begun : ℕ → Record) (h : List (Call L)) (p : Parts L Record)
-    → Stands loads m s begun h p → p.book.settings ≡ p.settings
-book-told {L} {Record} loads m s begun h p so =
-    ap (λ (a : State L Record). a.book.settings) so.state ∙ settings-kept loads m s begun h ∙ sym so.told
-
 -- A call that is the book's alone.
 module _ {L Record : Type 0} (loads : Loads L) (m : Rules Record) (p : Parts L Record) (b : BookState) where
   abbrev pub booked : Parts L Record
-  booked = parts p.settings b p.records p.stamps p.wire p.bins p.depth p.total
+  booked = parts b p.records p.stamps p.wire p.bins p.depth p.total
 
   book-follows : (call : Call L) (r : Answer L) → Steps loads m call p booked r → Follows loads m call p booked r
-  book-follows call r w = follows loads m call p booked r (record { settings = refl; bins = refl; depth = refl; total = refl }) w
+  book-follows call r w = follows loads m call p booked r (record { bins = refl; depth = refl; total = refl }) w
 
   pub hold-follows : (x : ℕ) (k : Booking) (r : Result Note BookFault) → r ≡ (hold_of p.book x k).0 → b ≡ (hold_of p.book x k).1
       → Follows loads m (Hold x k) p booked (held r)

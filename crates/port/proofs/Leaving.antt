@@ -1,5 +1,7 @@
 -- One load that leaves: what is taken out of its bin, and the departure as the rules have it; and the end of a cycle.
-use Rattle.std.proofs.Common.{◌≡◌, ℕ, suc, ◌+◌, ◌*◌, ◌/◌, ◌<◌, ◌≤◌, min, List, [], length, Some, None, Ok, Err, Option, sym, ap, ◌∙◌, arith}
+use Rattle.std.proofs.Common.{◌≡◌, ℕ, suc, ◌+◌, ◌*◌, ◌/◌, ◌<◌, ◌≤◌, min, List, [], length, Some, None, Ok, Err, Option, Result, sym, ap, ◌∙◌, arith}
+use Rattle.std.specs.Option.{option_flatten}
+use Rattle.std.specs.Result.{result_ok}
 use native.Mathlib.Nat.{lt-div-mul-add, min-le_left, min-le_right, le-min}
 use Rattle.std.proofs.lemmas.List.{get_or_past}
 use Rattle.std.proofs.lemmas.Bool.{ltb-false, not-true}
@@ -16,12 +18,16 @@ use Rattle.port.proofs.Turning.{turn-bin, turn-next}
 use Rattle.port.proofs.Rooms.{set-replaced}
 
 module _ {L : Type 0} (bs next : List (List L)) (b : ℕ) (is : next ≡ (take_of bs b).1) where
-  pub taken-ok : (o : Option L) → Ok o ≡ (take_of bs b).0 → Taken bs b o next
+  taken-ok : (o : Option L) → Ok o ≡ (take_of bs b).0 → Taken bs b o next
   taken-ok None e = let p = took-none bs b (sym e) in (p.1, is ∙ p.2)
   taken-ok (Some x) e = let p = took-some bs b x (sym e) in record { rest = p.0; there = there-bin bs b p.1; is = p.2; left = is ∙ p.3 }
 
-  pub taken-err : (f : RackFault) → Err f ≡ (take_of bs b).0 → Taken bs b None next
+  taken-err : (f : RackFault) → Err f ≡ (take_of bs b).0 → Taken bs b None next
   taken-err f e = let p = took-err bs b f (sym e) in (get_or_past bs b [] (ltb-false b (length bs) (not-true _ p.0)), is ∙ p.2)
+
+  pub taken : (r : Result (Option L) RackFault) → r ≡ (take_of bs b).0 → Taken bs b (option_flatten (result_ok r)) next
+  taken (Ok o) e = taken-ok o e
+  taken (Err f) e = taken-err f e
 
 -- The load of the class whose turn it is.
 pub took : {L : Type 0} (loads : Loads L) (s : SetNumbers) (tick : ℕ) (bs next : List (List L)) (t : Turn) (x : L) (stream : ℕ)

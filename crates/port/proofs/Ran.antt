@@ -17,7 +17,7 @@ use Rattle.schedule.specs.Histories.{Call, Run, ran}
 use Rattle.port.specs.Standing.{Parts, state_in, Stands, Follows}
 use Rattle.port.specs.Playing.{Long, sending_at, Played}
 use Rattle.port.proofs.Invariants.{after-long}
-use Rattle.port.proofs.Following.{parts, Stays, follows-standing, book-told}
+use Rattle.port.proofs.Following.{parts, Stays, follows-standing}
 
 module _ {L Record : Type 0} (loads : Loads L) (m : Rules Record) (p : Parts L Record) (until places : ℕ) where
   a : State L Record
@@ -40,7 +40,7 @@ module _ {L Record : Type 0} (loads : Loads L) (m : Rules Record) (p : Parts L R
       record { next = ap (λ v. v.1) w; answers = ap (λ v. ran v.0) w })
 
   same : Stays p p
-  same = record { settings = refl; bins = refl; depth = refl; total = refl }
+  same = record { bins = refl; depth = refl; total = refl }
 
   pub run-bad : bad_until loads m (state_in p) until ≡ true → Follows loads m (Run until places) p p (ran (Err BadUntil))
   unfolding a Due
@@ -55,23 +55,22 @@ module _ {L Record : Type 0} (loads : Loads L) (m : Rules Record) (p : Parts L R
   module _ (bad : bad_until loads m (state_in p) until ≡ false) (short : short_list loads m (state_in p) until places ≡ false)
       (book : BookState) (wire : ℕ) (bins : List (List L)) (depth total : ℕ) (sent : List (Departure L)) where
     abbrev pub ran_parts : Parts L Record
-    ran_parts = parts p.settings book p.records p.stamps wire bins depth total
+    ran_parts = parts book p.records p.stamps wire bins depth total
 
-    pub run-goes : (clock : ℕ) → clock ≡ p.book.clock
-        → (Long loads (bin_of p.bins) → (until - clock) / 84 < places → Played loads p.settings until clock p.wire p.bins wire bins sent)
+    pub run-goes : (clock : ℕ) (s : SetNumbers) → clock ≡ p.book.clock → s ≡ p.book.settings
+        → (Long loads (bin_of p.bins) → (until - clock) / 84 < places → Played loads s until clock p.wire p.bins wire bins sent)
         → book ≡ (advance_of p.book until).1 → length bins ≡ length p.bins → depth ≡ p.depth → total ≡ p.total
         → Follows loads m (Run until places) p ran_parts (ran (Ok sent))
     unfolding a Due
-    run-goes clock now plays moves len dep tot = run_by false false bad short ran_parts (Ok sent) (record { settings = refl; bins = len; depth = dep; total = tot })
-        (λ s begun h so.
-        let told = book-told loads m s begun h p so in
-        let long : Long loads (bin_of p.bins) = subst (λ (w : State L Record). Long loads w.bins) (sym so.state) (after-long loads m s begun h) in
+    run-goes clock s now told plays moves len dep tot = run_by false false bad short ran_parts (Ok sent) (record { bins = len; depth = dep; total = tot })
+        (λ z begun h so.
+        let long : Long loads (bin_of p.bins) = subst (λ (w : State L Record). Long loads w.bins) (sym so.state) (after-long loads m z begun h) in
         let enough = ltb-false places ((until - p.book.clock) / 84 + 1) short in
         let fits : (until - clock) / 84 < places = subst (λ (t : ℕ). (until - t) / 84 < places) (sym now) (omega arith) in
         let book-is : book ≡ advanced p.book until = moves ∙ ap (λ v. v.1) (advance-at p.book until false bad) in
         let ends : played loads m (state_in p) until ≡ sending_at until wire (bin_of bins) sent =
-        ap (λ (w : SetNumbers). ticks loads w (until - p.book.clock) (sending_at p.book.clock p.wire (bin_of p.bins) [])) told
-        ∙ ap (λ (t : ℕ). ticks loads p.settings (until - t) (sending_at t p.wire (bin_of p.bins) [])) (sym now) ∙ plays long fits in
+        ap (λ (w : SetNumbers). ticks loads w (until - p.book.clock) (sending_at p.book.clock p.wire (bin_of p.bins) [])) (sym told)
+        ∙ ap (λ (t : ℕ). ticks loads s (until - t) (sending_at t p.wire (bin_of p.bins) [])) (sym now) ∙ plays long fits in
         made book-is ∙ sym (ap (λ (g : Sending L). (Ok g.sent, rules.ran loads m (state_in p) until g)) ends))
       where
         made : book ≡ advanced p.book until

@@ -4,14 +4,19 @@ use Rattle.std.proofs.lemmas.List.{drop-set-lt, drop-drop, length_push}
 use Rattle.std.proofs.lemmas.Bool.{cases_lt}
 use Rattle.std.specs.List.{AllByRecursion as All}
 use Rattle.book.specs.Told.{SetNumbers, class_count, Legal}
+use Rattle.racks.specs.declared.rack.Rack as Rack
 use Rattle.racks.specs.Bins.{bin_of}
 use Rattle.placers.specs.Placers.{replaced}
 use Rattle.schedule.specs.declared.departures.Departure.{Departure}
 use Rattle.schedule.specs.Bins as rules
 use Rattle.schedule.specs.Wires.{Loads, wire_octets, none, some, current_bin, next_out, departure, sending, ticks}
-use Rattle.port.specs.Playing.{Long, sending_at, Took, Idle, Played}
+use Rattle.port.specs.Playing.{SameRoom, Long, sending_at, Took, Idle, Played}
 use Rattle.port.proofs.Invariants.{lowest-some, rest-long}
 use Rattle.port.proofs.Skips.{skip-wait, skip-cycle, skip-empty, send-on}
+
+-- Room that stays twice stays.
+pub same-room : {R L : Type 0} {rack : Rack.Ghosts R L} {a b c : R} → SameRoom rack a b → SameRoom rack b c → SameRoom rack a c
+same-room p q = record { count = q.count ∙ p.count; depth = q.depth ∙ p.depth; total = q.total ∙ p.total }
 
 -- One more place written.
 pub one_written : {X : Type 0} (xs ys : List X) (n : ℕ) (y : X) → n < length xs → drop n xs ≡ drop n ys

@@ -8,10 +8,10 @@ use Rattle.schedule.specs.Wires.{Loads}
 use Rattle.schedule.specs.Modules.{State, booked_fault, not_there}
 use Rattle.port.specs.Rowed.{live_booking}
 
--- A booking, unless a fault was found.
-abbrev pub unless : Option PortFault → Booking → Result Booking PortFault
-unless (Some f) k = Err f
-unless None k = Ok k
+-- What is answered, unless a fault was found.
+abbrev pub unless : {A : Type 0} → Option PortFault → A → Result A PortFault
+unless (Some f) x = Err f
+unless None x = Ok x
 
 module _ {L Record : Type 0} (loads : Loads L) (m : Rules Record) (a : State L Record) (input stamp : ℕ) (x : L) where
   -- A frame needs a live row, and then goes by its booking.

@@ -2,11 +2,18 @@
 use Rattle.std.specs.Prelude.{◌≡◌, ℕ, suc, ◌-◌, ◌*◌, ◌/◌, ◌<◌, ◌≤◌, ◌⊎◌, List, [], ◌∷◌, length, Some, None, Option, slice_set}
 use Rattle.std.specs.List.{AllByRecursion}
 use Rattle.book.specs.Told.{SetNumbers, cycle_of}
+use Rattle.racks.specs.declared.rack.Rack as Rack
 use Rattle.racks.specs.Bins.{bin_of, held_in}
 use Rattle.placers.specs.Placers.{replaced}
 use Rattle.schedule.specs.declared.departures.Departure.{Departure}
 use Rattle.schedule.specs.Bins as rules
 use Rattle.schedule.specs.Wires.{Loads, Sending, none, some, next_out, departure, ticks}
+
+-- A rack keeps its room: the number of its bins, its depth and its total.
+pub record SameRoom {R L : Type 0} (rack : Rack.Ghosts R L) (was is : R) : Type 0 where
+  pub count : length (rack.bins is) ≡ length (rack.bins was)
+  pub depth : rack.depth is ≡ rack.depth was
+  pub total : rack.total is ≡ rack.total was
 
 -- What is taken out of a bin: its oldest load, or none.
 module _ {L : Type 0} (bins : List (List L)) (bin : ℕ) where

@@ -1,6 +1,7 @@
 -- The last stamps as a function of the stream.
-use Rattle.std.specs.Prelude.{ℕ, slice_index}
-use Rattle.port.specs.declared.stamps.Stamps.{Stamps}
+use Rattle.std.specs.Prelude.{ℕ}
+use Rattle.placers.specs.declared.table.Table.{Table}
+use Rattle.placers.specs.Tables.{row_in}
 
-abbrev pub stamps_of : Stamps → (stream : ℕ) → ℕ
-stamps_of t x = slice_index t.last x
+abbrev pub stamps_of : Table ℕ → (stream : ℕ) → ℕ
+stamps_of = row_in 0

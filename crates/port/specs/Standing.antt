@@ -1,9 +1,11 @@
 -- A port as plain values, and the history of calls after which it stands.
 use Rattle.std.specs.Prelude.{◌≡◌, ℕ, ◌≤◌, List, ◌∷◌, length, take, drop, Ok, Err, Result}
 use Rattle.book.specs.Told.{SetNumbers}
-use Rattle.book.specs.Sets.{numbers_of}
 use Rattle.book.specs.Books.{BookState, state_of, advance_of}
+use Rattle.loads.specs.declared.Load as Load
+use Rattle.racks.specs.declared.rack.Rack as Rack
 use Rattle.racks.specs.Bins.{bin_of}
+use Rattle.placers.specs.declared.placer.Placer as Placer
 use Rattle.placers.specs.Placers.{Rules}
 use Rattle.schedule.specs.declared.departures.Departure.{Departure}
 use Rattle.schedule.specs.declared.faults.PortFault.{PortFault}
@@ -14,10 +16,9 @@ use Rattle.schedule.specs.Laws.{room_of}
 use Rattle.port.specs.declared.ports.Port.{Port}
 use Rattle.port.specs.Stamped.{stamps_of}
 
--- What a port is made of: its settings, its book, the placer's records, the last stamps, the tick from which on the wire is free,
+-- What a port is made of: its book, which has the settings, the placer's records, the last stamps, the tick from which on the wire is free,
 -- and the rack: its bins, the most loads in one of them, and the most in all.
 pub record Parts (L Record : Type 0) : Type 0 where
-  pub settings : SetNumbers
   pub book : BookState
   pub records : ℕ → Record
   pub stamps : ℕ → ℕ
@@ -27,8 +28,8 @@ pub record Parts (L Record : Type 0) : Type 0 where
   pub total : ℕ
 
 -- What a kind of load tells of a frame, by its two readings.
-abbrev pub loads_by : {L : Type 0} → (stream_of length_of : L → ℕ) → Loads L
-loads_by stream length = record { stream_of = stream; length_of = length }
+abbrev pub loads_by : {L : Type 0} → Load.Ghosts L → Loads L
+loads_by l = record { stream_of = l.stream_of; length_of = l.length_of }
 
 -- What the rack, the loads and the placer of a port mean.
 pub record Meaning (R P L Record : Type 0) : Type 1 where
@@ -39,14 +40,12 @@ pub record Meaning (R P L Record : Type 0) : Type 1 where
   pub records : P → ℕ → Record
   pub rules : Rules Record
 
-abbrev pub meant : {R P L Record : Type 0} → (bins : R → List (List L)) → (depth total : R → ℕ) → (stream_of length_of : L → ℕ)
-    → (records : P → ℕ → Record) → Rules Record → Meaning R P L Record
-meant bins depth total stream length records rules =
-    record { bins = bins; depth = depth; total = total; loads = loads_by stream length; records = records; rules = rules }
+abbrev pub meant : {R P L : Type 0} → Rack.Ghosts R L → Load.Ghosts L → (p : Placer.Ghosts P) → Meaning R P L p.Record
+meant r l p =
+    record { bins = r.bins; depth = r.depth; total = r.total; loads = loads_by l; records = p.records; rules = p.rules }
 
 abbrev pub parts_of : {R P L Record : Type 0} → Meaning R P L Record → Port R P → Parts L Record
 parts_of m p = record {
-  settings = numbers_of p.settings;
   book = state_of p.book;
   records = m.records p.placer;
   stamps = stamps_of p.stamps;
@@ -64,7 +63,7 @@ module _ {L Record : Type 0} (loads : Loads L) (m : Rules Record) (s : SetNumber
   -- The port was set with settings s and a placer with the records begun, and stands after history h:
   -- it is in the state that the rules give, and its rack has the room that the settings need.
   pub record Stands (h : List (Call L)) (p : Parts L Record) : Type 0 where
-    pub told : p.settings ≡ s
+    pub told : p.book.settings ≡ s
     pub state : state_in p ≡ after loads m s begun h
     pub bins : (room_of s).bins ≤ length p.bins
     pub depth : (room_of s).depth ≤ p.depth
@@ -84,12 +83,13 @@ Follows {L} {Record} loads m call was is r =
 abbrev pub ByRules : {R P L Record : Type 0} → Meaning R P L Record → Call L → (was is : Port R P) → Answer L → Type 0
 ByRules m call was is r = Follows m.loads m.rules call (parts_of m was) (parts_of m is) r
 
--- The state of a module that a port is in, and that its book has the port's own settings.
+-- The state of a module that a port is in.
 abbrev pub module_of : {R P L Record : Type 0} → Meaning R P L Record → Port R P → State L Record
 module_of m p = state_in (parts_of m p)
 
-abbrev pub Agreed : {R P : Type 0} → Port R P → Type 0
-Agreed p = (state_of p.book).settings ≡ numbers_of p.settings
+-- What a definition of the rules says of that state.
+abbrev pub of_port : {R P L Record A : Type 0} → (Loads L → Rules Record → State L Record → A) → Meaning R P L Record → Port R P → A
+of_port rule m p = rule m.loads m.rules (module_of m p)
 
 -- A run answers how many departures it wrote: those stand at the front of the list, in order.
 abbrev pub ran_of : {L : Type 0} → Result ℕ PortFault → List (Departure L) → Answer L

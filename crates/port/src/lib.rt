@@ -4,6 +4,4 @@
 mod numbers;
 pub mod plan;
 pub mod ports;
-mod rowed;
-mod stamps;
 mod wires;

@@ -1,9 +1,9 @@
 // What a port is set to, checked once together with its rack, and then carried in a type.
 ghost use Rattle.std.specs.Prelude.{◌≡◌};
-ghost use Rattle.book.specs.Told.{told};
+ghost use Rattle.book.specs.Told.{told_by};
 ghost use Rattle.port.specs.Planned.{has_room, Planned};
 
-use book::setup::{Class, Settings};
+use book::setup::{Settings, Setup};
 use placers::placer::Placer;
 use racks::rack::Rack;
 use schedule::faults::PortFault;
@@ -18,7 +18,7 @@ pub struct Plan {
 
 // The rack has the bins and the places, and holds no load.
 fn has_room<R: Rack>(rack: &R, room: Room) -> bool
-    ensures { result ≡ has_room room (R.Rack.bins rack.now) (R.Rack.depth rack.now) (R.Rack.total rack.now) }
+    ensures { result ≡ has_room R.Rack room rack.now }
 {
     rack.bin_count() >= room.bins
         && rack.depth() >= room.depth
@@ -27,18 +27,10 @@ fn has_room<R: Rack>(rack: &R, room: Room) -> bool
 }
 
 // A plan for a port over that rack and that placer, or the first rule of set that is broken.
-pub fn check<R: Rack, P: Placer>(
-    number: u64,
-    delay: u32,
-    dead_time: u32,
-    classes: &[Class],
-    phases: &[u32],
-    rack: &R,
-    _placer: &P,
-) -> Result<Plan, PortFault>
-    ensures { Planned (told number delay dead_time classes.now phases.now) (R.Rack.bins rack.now) (R.Rack.depth rack.now) (R.Rack.total rack.now) result }
+pub fn check<R: Rack, P: Placer>(setup: &Setup, rack: &R, _placer: &P) -> Result<Plan, PortFault>
+    ensures { Planned R.Rack (told_by setup.now) rack.now result }
 {
-    let settings = Settings::check(number, delay, dead_time, classes, phases)?;
+    let settings = Settings::check(setup)?;
     if !has_room(rack, rooms::room_needed::<R::Item, P>(&settings)) {
         return Err(PortFault::BadRack);
     }

@@ -1,21 +1,21 @@
 // A port: one output link of a module, with the streams booked on it and the loads that wait for it.
-use crate::stamps::Stamps;
 use book::ledger::Book;
-use book::setup::Settings;
+use placers::table::Table;
 
+mod booked;
 mod booking;
 mod framing;
 mod making;
 mod reading;
 mod sending;
 
-// It holds its settings beside its book, which has the same, and the tick from which on the wire is free.
+// Its settings are its book's. It holds the tick from which on the wire is free, and of each stream the last stamp accepted
+// since its confirm, 0 before the first.
 #[derive(Drop)]
 pub struct Port<R, P> {
-    settings: Settings,
     book: Book,
     rack: R,
     placer: P,
     wire: u64,
-    stamps: Stamps,
+    stamps: Table<u64>,
 }

@@ -6,7 +6,7 @@ use loads::marks::Mark;
 use placers::by_count::ByCount;
 use port::ports::Port;
 use racks::cells::CellSlots;
-use racks::plan::check_cells;
+use racks::plan::{Numbers, check_cells};
 use racks::rack::Rack;
 use racks::store::Store;
 use schedule::departures::Departure;
@@ -30,11 +30,11 @@ const CLASSES: [Class; 3] = [
     },
 ];
 
-const BINS: u32 = 14;
-
-const DEPTH: u32 = 12_190;
-
-const TOTAL: u32 = 99_872;
+const NUMBERS: Numbers = Numbers {
+    bins: 14,
+    depth: 12_190,
+    total: 99_872,
+};
 
 const UNTIL: u64 = 84_000_000;
 // The most departures of that run.
@@ -68,18 +68,16 @@ fn run<R: Rack<Item = Mark> + Drop>(
     loads: u32,
     list: &mut [Departure<Mark>],
 ) -> io::Result<()> {
-    match waiting(rack, loads) {
+    let mut port = match waiting(rack, loads) {
+        Ok(port) => port,
+        Err(fault) => return println!(rt; "idle: refused, {}", fault.number()),
+    };
+    let start = Instant::now(rt)?;
+    let came = port.run(UNTIL, list);
+    let took = start.elapsed(rt)?;
+    match came {
+        Ok(count) => println!(rt; "idle: {count} departures in {} ns", took.as_nanos()),
         Err(fault) => println!(rt; "idle: refused, {}", fault.number()),
-        Ok(port) => {
-            let mut port = port;
-            let start = Instant::now(rt)?;
-            let came = port.run(UNTIL, list);
-            let took = start.elapsed(rt)?;
-            match came {
-                Err(fault) => println!(rt; "idle: refused, {}", fault.number()),
-                Ok(count) => println!(rt; "idle: {count} departures in {} ns", took.as_nanos()),
-            }
-        }
     }
 }
 
@@ -90,12 +88,12 @@ fn run_over_cells(
     next: &mut [u32],
     list: &mut [Departure<Mark>],
 ) -> io::Result<()> {
-    match check_cells(BINS, DEPTH, TOTAL, places, next) {
-        Err(fault) => println!(rt; "idle: refused, {}", fault.number()),
+    match check_cells(NUMBERS, places, next) {
         Ok(plan) => {
             let mut slots = CellSlots::make(plan, next);
             run(rt, Store::over(places, &mut slots), loads, list)
         }
+        Err(fault) => println!(rt; "idle: refused, {}", fault.number()),
     }
 }
 
@@ -109,17 +107,16 @@ struct Lists {
 
 fn make_lists(rt: &HostRuntime) -> Result<Lists, AllocError> {
     Ok(Lists {
-        places: vec![in rt.alloc(); Mark::new(0, 64, 0); TOTAL as usize]?,
-        next: vec![in rt.alloc(); 0; TOTAL as usize]?,
+        places: vec![in rt.alloc(); Mark::new(0, 64, 0); NUMBERS.total as usize]?,
+        next: vec![in rt.alloc(); 0; NUMBERS.total as usize]?,
         departures: vec![in rt.alloc(); ports::none(); PLACES]?,
     })
 }
 
 pub(crate) fn time(rt: &HostRuntime) -> io::Result<()> {
-    let Ok(lists) = make_lists(rt) else {
+    let Ok(mut lists) = make_lists(rt) else {
         return println!(rt; "idle: no memory");
     };
-    let mut lists = lists;
     for loads in [0, 7] {
         run_over_cells(
             rt,

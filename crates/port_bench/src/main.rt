@@ -10,25 +10,24 @@ mod traffic;
 use crate::ports::Tally;
 use loads::marks::Mark;
 use racks::cells::CellSlots;
-use racks::plan::{check_cells, check_rows};
+use racks::plan::{Numbers, check_cells, check_rows};
 use racks::rack::Rack;
 use racks::rows::RowSlots;
 use racks::store::Store;
 use schedule::faults::PortFault;
-use std::time::Instant;
+use std::time::{Duration, Instant};
 use std::{env, io};
 
-const BINS: u32 = 12;
+const NUMBERS: Numbers = Numbers {
+    bins: 12,
+    depth: 190,
+    total: 1_065,
+};
 
-const DEPTH: u32 = 190;
-
-const TOTAL: u32 = 1_065;
-
+// A function for each rack, since each makes lists of its own and lends them: one over both would take all that is in them.
 fn rows() -> Result<Tally, PortFault> {
     let mut places = [Mark::new(0, 64, 0); 2_280];
-    let Ok(plan) = check_rows(BINS, DEPTH, TOTAL, &places) else {
-        return Err(PortFault::BadRack);
-    };
+    let plan = check_rows(NUMBERS, &places).map_err(|_| PortFault::BadRack)?;
     let mut slots = RowSlots::make(plan);
     traffic::passes(Store::over(&mut places, &mut slots))
 }
@@ -36,11 +35,21 @@ fn rows() -> Result<Tally, PortFault> {
 fn cells() -> Result<Tally, PortFault> {
     let mut places = [Mark::new(0, 64, 0); 1_065];
     let mut next = [0; 1_065];
-    let Ok(plan) = check_cells(BINS, DEPTH, TOTAL, &places, &next) else {
-        return Err(PortFault::BadRack);
-    };
+    let plan = check_cells(NUMBERS, &places, &next).map_err(|_| PortFault::BadRack)?;
     let mut slots = CellSlots::make(plan, &mut next);
     traffic::passes(Store::over(&mut places, &mut slots))
+}
+
+// What came of the traffic over a rack, and the time that it took.
+fn timed<F: FnOnce() -> Result<Tally, PortFault>>(
+    rt: &HostRuntime,
+    traffic: F,
+) -> io::Result<(Result<Tally, PortFault>, Duration)>
+    requires { F.IsAlwaysCallable traffic }
+{
+    let start = Instant::now(rt)?;
+    let came = traffic();
+    Ok((came, start.elapsed(rt)?))
 }
 
 fn tell(rt: &HostRuntime, name: &str, came: Result<Tally, PortFault>) -> io::Result<()> {
@@ -51,16 +60,12 @@ fn tell(rt: &HostRuntime, name: &str, came: Result<Tally, PortFault>) -> io::Res
 }
 
 fn main(rt: HostRuntime) -> io::Result<()> {
-    let timed = env::args(&rt)?.count() > 1;
-    let start = Instant::now(&rt)?;
-    let in_rows = rows();
-    let rows_took = start.elapsed(&rt)?;
-    let start = Instant::now(&rt)?;
-    let in_cells = cells();
-    let cells_took = start.elapsed(&rt)?;
+    let with_times = env::args(&rt)?.count() > 1;
+    let (in_rows, rows_took) = timed(&rt, rows)?;
+    let (in_cells, cells_took) = timed(&rt, cells)?;
     tell(&rt, "rows", in_rows)?;
     tell(&rt, "cells", in_cells)?;
-    if timed {
+    if with_times {
         println!(rt; "{} {}", rows_took.as_nanos(), cells_took.as_nanos())?;
         idle::time(&rt)?;
     }

@@ -1,7 +1,6 @@
 // The port that is timed, and what is told of it.
-use book::faults::BookFault;
 use book::rows::Booking;
-use book::setup::Class;
+use book::setup::{Class, Setup};
 use loads::marks::Mark;
 use placers::by_count::ByCount;
 use port::plan;
@@ -16,17 +15,13 @@ const DELAY: u32 = 1_000;
 const PHASES: [u32; 2] = [0, 500];
 
 // How many loads left, and a sum over their streams, classes, cycles, starts and buffers.
-#[derive(Clone, Copy)]
+#[derive(Clone, Copy, PartialEq, Eq, Debug, Default)]
 pub(crate) struct Tally {
     pub(crate) count: u64,
     pub(crate) sum: u64,
 }
 
 impl Tally {
-    pub(crate) fn new() -> Tally {
-        Tally { count: 0, sum: 0 }
-    }
-
     // The order counts too.
     pub(crate) fn after(&self, departure: &Departure<Mark>) -> Tally {
         let numbers = u64::from(departure.stream) << 48
@@ -57,28 +52,26 @@ pub(crate) fn make<R: Rack<Item = Mark> + Drop>(
     classes: &[Class],
 ) -> Result<Port<R, ByCount>, PortFault> {
     let placer = ByCount::new();
-    let plan = plan::check(0, DELAY, 0, classes, &PHASES, &rack, &placer)?;
+    let setup = Setup {
+        number: 0,
+        delay: DELAY,
+        dead_time: 0,
+        classes,
+        phases: &PHASES,
+    };
+    let plan = plan::check(&setup, &rack, &placer)?;
     Ok(Port::make(plan, rack, placer))
 }
 
-fn hold_and_confirm<R: Rack>(
-    port: &mut Port<R, ByCount>,
-    stream: u8,
-    booking: Booking,
-) -> Result<(), BookFault> {
-    let note = port.hold(stream, booking)?;
-    match port.confirm(note) {
-        Ok(()) => Ok(()),
-        Err((_, _)) => unreachable(),
-    }
-}
-
-// Makes a stream live.
+// Makes a stream live. The tests have the like of their own: a public function for it would be for these alone.
 pub(crate) fn admit<R: Rack>(
     port: &mut Port<R, ByCount>,
     stream: u8,
     booking: Booking,
 ) -> Result<(), PortFault> {
-    hold_and_confirm(port, stream, booking)?;
-    Ok(())
+    let note = port.hold(stream, booking)?;
+    match port.confirm(note) {
+        Ok(()) => Ok(()),
+        Err((_, _)) => unreachable(),
+    }
 }

@@ -1,6 +1,7 @@
 // The traffic: sixteen live streams, four in each class, whose frames are handed over before each run.
 use crate::ports;
 use crate::ports::Tally;
+use book::frames;
 use book::rows::Booking;
 use book::setup::Class;
 use loads::marks::Mark;
@@ -9,6 +10,7 @@ use port::ports::Port;
 use racks::rack::Rack;
 use schedule::departures::Departure;
 use schedule::faults::PortFault;
+use std::ops::Range;
 
 const CLASSES: [Class; 4] = [
     Class {
@@ -93,16 +95,35 @@ const LAST_RUNS: u32 = 12;
 // The most departures of a run.
 const PLACES: usize = 48;
 
-// Lengths vary with the number of the frame.
-fn length_of(habit: Habit, number: u32) -> u16 {
-    let mixed = number.wrapping_mul(2_654_435_761) >> 16;
-    64u16.wrapping_add(mixed as u16 & habit.more)
+impl Habit {
+    fn streams(&self) -> Range<u8> {
+        self.first_stream..self.first_stream.saturating_add(STREAMS)
+    }
+
+    // Lengths vary with the number of the frame.
+    fn length(&self, number: u32) -> u16 {
+        let mixed = number.wrapping_mul(2_654_435_761) >> 16;
+        frames::SHORTEST.wrapping_add(mixed as u16 & self.more)
+    }
+}
+
+// The loads are numbered as they are made.
+#[derive(Drop)]
+struct Numbers {
+    next: u32,
+}
+
+impl Numbers {
+    fn load(&mut self, habit: Habit, stream: u8) -> Mark {
+        let number = self.next;
+        self.next = number.wrapping_add(1);
+        Mark::new(stream, habit.length(number), number)
+    }
 }
 
 fn book_all<R: Rack>(port: &mut Port<R, ByCount>) -> Result<(), PortFault> {
     for habit in HABITS {
-        for s in 0..STREAMS {
-            let stream = habit.first_stream.wrapping_add(s);
+        for stream in habit.streams() {
             let booking = Booking {
                 input: stream & 1,
                 class: habit.class,
@@ -115,39 +136,35 @@ fn book_all<R: Rack>(port: &mut Port<R, ByCount>) -> Result<(), PortFault> {
     Ok(())
 }
 
-// Hands over the frames of a class, each with a stamp of a few ticks ago. The loads are numbered; answers the next number.
+// Hands over the frames of a class, each with a stamp of a few ticks ago.
 fn hand_over<R: Rack<Item = Mark>>(
     port: &mut Port<R, ByCount>,
     habit: Habit,
-    first: u32,
-) -> Result<u32, PortFault> {
+    numbers: &mut Numbers,
+) -> Result<(), PortFault> {
     let clock = port.clock();
-    let mut number = first;
-    for f in 0..habit.frames {
-        let stamp = clock.saturating_sub(u64::from(habit.frames - f));
-        for s in 0..STREAMS {
-            let stream = habit.first_stream.wrapping_add(s);
-            let load = Mark::new(stream, length_of(habit, number), number);
+    for ago in (1..=habit.frames).rev() {
+        let stamp = clock.saturating_sub(u64::from(ago));
+        for stream in habit.streams() {
+            let load = numbers.load(habit, stream);
             port.frame(stream & 1, stamp, load)?;
-            number = number.wrapping_add(1);
         }
     }
-    Ok(number)
+    Ok(())
 }
 
 // Hands over before a run what is due then.
 fn hand_all<R: Rack<Item = Mark>>(
     port: &mut Port<R, ByCount>,
     run: u32,
-    first: u32,
-) -> Result<u32, PortFault> {
-    let mut number = first;
+    numbers: &mut Numbers,
+) -> Result<(), PortFault> {
     for habit in HABITS {
         if run & habit.rest == 0 {
-            number = hand_over(port, habit, number)?;
+            hand_over(port, habit, numbers)?;
         }
     }
-    Ok(number)
+    Ok(())
 }
 
 fn send<R: Rack<Item = Mark>>(
@@ -157,11 +174,11 @@ fn send<R: Rack<Item = Mark>>(
 ) -> Result<Tally, PortFault> {
     let until = port.clock().saturating_add(RUN);
     let count = port.run(until, list)?;
-    let mut tally = before;
-    for departure in list.iter().take(count) {
-        tally = tally.after(departure);
-    }
-    Ok(tally)
+    Ok(
+        list.iter()
+            .take(count)
+            .fold(before, |tally, departure| tally.after(departure)),
+    )
 }
 
 // All runs, with a list that has room for one.
@@ -169,10 +186,10 @@ fn run_all<R: Rack<Item = Mark>>(
     port: &mut Port<R, ByCount>,
     list: &mut [Departure<Mark>],
 ) -> Result<Tally, PortFault> {
-    let mut tally = Tally::new();
-    let mut number = 0;
+    let mut tally = Tally::default();
+    let mut numbers = Numbers { next: 0 };
     for run in 0..RUNS {
-        number = hand_all(port, run, number)?;
+        hand_all(port, run, &mut numbers)?;
         tally = send(port, list, tally)?;
     }
     for _ in 0..LAST_RUNS {

@@ -5,7 +5,7 @@
 use loads::marks::Mark;
 use racks::cells::CellSlots;
 use racks::faults::RackFault;
-use racks::plan::{check_cells, check_rows};
+use racks::plan::{Numbers, check_cells, check_rows};
 use racks::rack::Rack;
 use racks::rows::RowSlots;
 use racks::store::Store;
@@ -18,9 +18,15 @@ const BINS: u32 = 32;
 
 const DEPTH: u32 = 64;
 
-const PLACES: u32 = 2_048;
+const PLACES: usize = 2_048;
 // Each bin has so many loads when the pairs begin.
 const LOADS_FIRST: u32 = 8;
+
+const NUMBERS: Numbers = Numbers {
+    bins: BINS,
+    depth: DEPTH,
+    total: PLACES as u32,
+};
 
 // The sum of the buffer numbers taken. Puts go around the bins, and takes half a round behind.
 fn pairs<R: Rack<Item = Mark>>(rack: &mut R, count: u32) -> u64 {
@@ -38,16 +44,16 @@ fn pairs<R: Rack<Item = Mark>>(rack: &mut R, count: u32) -> u64 {
 }
 
 fn rows(count: u32) -> Result<u64, RackFault> {
-    let mut places = [Mark::new(0, 64, 0); 2_048];
-    let mut slots = RowSlots::make(check_rows(BINS, DEPTH, PLACES, &places)?);
+    let mut places = [Mark::new(0, 64, 0); PLACES];
+    let mut slots = RowSlots::make(check_rows(NUMBERS, &places)?);
     let mut rack = Store::over(&mut places, &mut slots);
     Ok(pairs(&mut rack, count))
 }
 
 fn cells(count: u32) -> Result<u64, RackFault> {
-    let mut places = [Mark::new(0, 64, 0); 2_048];
-    let mut next = [0; 2_048];
-    let plan = check_cells(BINS, DEPTH, PLACES, &places, &next)?;
+    let mut places = [Mark::new(0, 64, 0); PLACES];
+    let mut next = [0; PLACES];
+    let plan = check_cells(NUMBERS, &places, &next)?;
     let mut slots = CellSlots::make(plan, &mut next);
     let mut rack = Store::over(&mut places, &mut slots);
     Ok(pairs(&mut rack, count))

@@ -1,9 +1,9 @@
 -- Cells: each bin a chain of places, and one more chain of the free ones. What moving a place from one to another keeps.
-use Rattle.std.proofs.Common.{◌≡◌, ℕ, zero, suc, ◌+◌, ◌-◌, ◌<◌, ◌≤◌, Bool, false, cond, ◌||◌, eqb, leb, List, [], ◌∷◌, ◌++◌, length, get_or, drop, set, Some, None, Ok, sym, refl, ap, ◌∙◌, ⊎_elim, arith}
+use Rattle.std.proofs.Common.{◌≡◌, ℕ, zero, suc, ◌+◌, ◌-◌, ◌<◌, ◌≤◌, false, cond, ◌||◌, eqb, leb, List, [], ◌∷◌, ◌++◌, length, get_or, drop, set, Some, None, Ok, sym, refl, ap, ◌∙◌, ⊎_elim, arith}
 use Rattle.std.specs.List.{range_with_len}
 use Rattle.std.proofs.lemmas.List.{length-set, get_or-set_same, get_or-set_other, length-append, get_or_push}
 use Rattle.std.proofs.lemmas.List.FromFn.{length-range_with_len, get_or-range_with_len}
-use Rattle.std.proofs.lemmas.Bool.{cases_eq, cases_lt, eq-eqb, ne_eqb, le-leb, lt-leb, cond-true, cond-false}
+use Rattle.std.proofs.lemmas.Bool.{cases_eq, cases_lt, eq-eqb, ne_eqb, cond-true, cond-false}
 use Rattle.racks.specs.Bins.{bin_of, held_in, empty_bins, is_full, added, take_of}
 use Rattle.racks.specs.Places.{FreshIn, Within, Given, tabled}
 use Rattle.racks.specs.Chains.{Moved, chain, chain_of, cells_lay, times, times_in, Once, Inside, Ends}
@@ -366,19 +366,8 @@ module _ (n : ℕ) (next firsts counts : List ℕ) where
       take_at (cells_lay n next firsts counts) b false [] (bin-there (cells_lay n next firsts counts) b (lay-there n (chain_of next firsts counts) b h))
       (tab-at n (chain_of next firsts counts) b h ∙ ap (λ z. chain next (get_or firsts b 0) z) e)
 
-module _ (n total : ℕ) (next firsts counts : List ℕ) (sum : held_in (cells_lay (n + 1) next firsts counts) ≡ total) where
-  -- All bins hold total exactly if no place is free.
-  none_free : leb total (held_in (cells_lay n next firsts counts)) ≡ eqb (get_or counts n 0) 0
-  none_free =
-      ⊎_elim
-      (λ e. le-leb total (held_in (cells_lay n next firsts counts)) (omega (arith, held-free n next firsts counts)) ∙ sym (eq-eqb (get_or counts n 0) 0 e))
-      (λ e. lt-leb total (held_in (cells_lay n next firsts counts)) (let p : 0 < get_or counts n 0 = omega arith in omega (arith, held-free n next firsts counts)) ∙ sym (ne_eqb (get_or counts n 0) 0 e))
-      (cases_eq (get_or counts n 0) 0)
-
-  pub cells-full : (d b : ℕ) → b < n → is_full (cells_lay n next firsts counts) d total b ≡ (leb d (get_or counts b 0) || eqb (get_or counts n 0) 0)
-  cells-full d b h =
-      ap (λ u. leb d u || leb total (held_in (cells_lay n next firsts counts))) (length-bin n next firsts counts b h)
-      ∙ ap (λ (z : Bool). leb d (get_or counts b 0) || z) none_free
+  pub cells-full : (d t b : ℕ) → b < n → is_full (cells_lay n next firsts counts) d t b ≡ (leb d (get_or counts b 0) || leb t (held_in (cells_lay n next firsts counts)))
+  cells-full d t b h = ap (λ u. leb d u || leb t (held_in (cells_lay n next firsts counts))) (length-bin b h)
 
 -- A place that has moved from the free list to a bin was given to it; one that has moved back was taken from it.
 pub cells-given : (n d t room b j : ℕ) (f g : ℕ → List ℕ) → b < n → Once (tabled (n + 1) f) → Inside room (tabled (n + 1) f) → is_full (tabled n f) d t b ≡ false

@@ -1,5 +1,5 @@
 -- Rows: each bin a ring of places of its own. What a put and a take do to the lay, and why no place serves twice.
-use Rattle.std.proofs.Common.{◌≡◌, ℕ, zero, suc, ◌+◌, ◌-◌, ◌*◌, ◌/◌, ◌%◌, ◌<◌, ◌≤◌, false, ◌||◌, leb, ◌⊎◌, List, [], ◌∷◌, ◌++◌, length, get_or, set, replicate, Some, None, Ok, sym, refl, ap, ◌∙◌, inl, inr, ⊎_elim, mul-le-mul_right, mod-lt, mod-eq_of_lt, suc-mul, arith}
+use Rattle.std.proofs.Common.{◌≡◌, ℕ, zero, suc, ◌+◌, ◌-◌, ◌*◌, ◌/◌, ◌%◌, ◌<◌, ◌≤◌, false, ◌||◌, leb, ◌⊎◌, List, [], ◌∷◌, ◌++◌, length, get_or, set, replicate, Some, None, Ok, sym, refl, ap, subst, ◌∙◌, inl, inr, ⊎_elim, mul-le-mul_right, mod-lt, mod-eq_of_lt, suc-mul, arith}
 use native.Mathlib.Nat.{mod-add-mod, mod-eq-sub-mod}
 use lib.Arith.{digits_div, digits_lt}
 use Rattle.std.proofs.lemmas.List.{get_or-set_same, get_or-set_other}
@@ -153,16 +153,33 @@ module _ (n d : ℕ) (starts counts : List ℕ) where
       take_at (rows_lay n d starts counts) b false [] (bin-there (rows_lay n d starts counts) b (rows-there b hb))
       (tab-at n (row_of d starts counts) b hb ∙ ap (λ z. ring (b * d) d (get_or starts b 0) z) e)
 
--- A bound on every item of a list, where one of them changes.
-pub keep-le : (n d : ℕ) (xs : List ℕ) (b v : ℕ) → b < length xs → ((a : ℕ) → a < n → get_or xs a 0 ≤ d) → v ≤ d → (a : ℕ) → a < n → get_or (set xs b v) a 0 ≤ d
-keep-le n d xs b v hb h hv a l =
-    ⊎_elim (λ q. omega (arith, get_or-set_same xs b v 0 hb, ap (λ z. get_or (set xs b v) z 0) q))
-    (λ q. omega (arith, get_or-set_other xs b a v 0 q, h a l)) (cases_eq a b)
+-- What holds of every item of a list, where one of them changes.
+keep : (P : ℕ → Type 0) (n : ℕ) (xs : List ℕ) (b v : ℕ) → b < length xs → ((a : ℕ) → a < n → P (get_or xs a 0)) → P v → (a : ℕ) → a < n → P (get_or (set xs b v) a 0)
+keep P n xs b v hb h hv a l =
+    ⊎_elim (λ q. subst P (sym (ap (λ z. get_or (set xs b v) z 0) q ∙ get_or-set_same xs b v 0 hb)) hv)
+    (λ q. subst P (sym (get_or-set_other xs b a v 0 q)) (h a l)) (cases_eq a b)
 
-pub keep-lt : (n d : ℕ) (xs : List ℕ) (b v : ℕ) → b < length xs → ((a : ℕ) → a < n → get_or xs a 0 < d) → v < d → (a : ℕ) → a < n → get_or (set xs b v) a 0 < d
-keep-lt n d xs b v hb h hv a l =
-    ⊎_elim (λ q. omega (arith, get_or-set_same xs b v 0 hb, ap (λ z. get_or (set xs b v) z 0) q))
-    (λ q. omega (arith, get_or-set_other xs b a v 0 q, h a l)) (cases_eq a b)
+-- What well-kept rows say of their rings, and keep when a place is given or freed.
+pub record Kept (n d held : ℕ) (starts counts : List ℕ) : Type 0 where
+  pub starts_within : (b : ℕ) → b < n → get_or starts b 0 < d
+  pub counts_within : (b : ℕ) → b < n → get_or counts b 0 ≤ d
+  pub sum : held ≡ held_in (rows_lay n d starts counts)
+
+module _ {n d held : ℕ} {starts counts : List ℕ} (k : Kept n d held starts counts) (b : ℕ) (hb : b < n) (hu : b < length counts) where
+  pub kept-given : (starts2 counts2 : List ℕ) → get_or counts b 0 < d → starts2 ≡ starts → counts2 ≡ set counts b (get_or counts b 0 + 1) → Kept n d (held + 1) starts2 counts2
+  kept-given starts2 counts2 f es ec = rw (es, ec) (record {
+    starts_within = k.starts_within;
+    counts_within = keep (λ z. z ≤ d) n counts b (get_or counts b 0 + 1) hu k.counts_within (omega arith);
+    sum = omega (arith, k.sum, held-given n d starts counts k.starts_within b hb hu);
+  })
+
+  pub kept-freed : (m next : ℕ) (starts2 counts2 : List ℕ) → b < length starts → get_or counts b 0 ≡ suc m → next ≡ (get_or starts b 0 + 1) % d → next < d
+      → starts2 ≡ set starts b next → counts2 ≡ set counts b m → Kept n d (held - 1) starts2 counts2
+  kept-freed m next starts2 counts2 hs e on low es ec = rw (es, ec) (record {
+    starts_within = keep (λ z. z < d) n starts b next hs k.starts_within low;
+    counts_within = keep (λ z. z ≤ d) n counts b m hu k.counts_within (omega (arith, k.counts_within b hb));
+    sum = omega (arith, k.sum, held-freed n d starts counts b m next hb hu hs e on);
+  })
 
 -- New rows.
 pub get_or-zeros : (n b : ℕ) → get_or {A = ℕ} (replicate n 0) b 0 ≡ 0

@@ -1,11 +1,22 @@
 -- The lay of the cells: each bin is a chain of places, each of which names the next; one more chain has the free ones.
-use Rattle.std.specs.Prelude.{◌≡◌, ℕ, zero, suc, ◌+◌, ◌-◌, ◌<◌, ◌≤◌, cond, List, [], ◌∷◌, ◌++◌, drop, ◌==◌, ◌≢◌, slice_index}
+use Rattle.std.specs.Prelude.{◌≡◌, ℕ, zero, suc, ◌+◌, ◌-◌, ◌<◌, ◌≤◌, cond, List, [], ◌∷◌, ◌++◌, drop, map, ◌==◌, ◌≢◌, slice_index}
+use Rattle.racks.specs.declared.chains.Chain.{Chain}
 use Rattle.racks.specs.Places.{tabled}
 
 -- So many places from the first on, each named by the one before.
 abbrev pub chain : (next : List ℕ) → (first count : ℕ) → List ℕ
 chain next h zero = []
 chain next h (suc u) = h ∷ chain next (slice_index next h) u
+
+-- Of each chain its first and last place, and how many it has.
+abbrev pub firsts_of : List Chain → List ℕ
+firsts_of chains = map (λ c. c.first) chains
+
+abbrev pub lasts_of : List Chain → List ℕ
+lasts_of chains = map (λ c. c.last) chains
+
+abbrev pub counts_of : List Chain → List ℕ
+counts_of chains = map (λ c. c.count) chains
 
 abbrev pub chain_of : (next firsts counts : List ℕ) → (list : ℕ) → List ℕ
 chain_of next firsts counts a = chain next (slice_index firsts a) (slice_index counts a)

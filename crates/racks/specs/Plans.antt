@@ -2,6 +2,7 @@
 use Rattle.std.specs.Prelude.{◌≡◌, ℕ, ◌*◌, Bool, cond, not, ◌&&◌, Some, None, Ok, Err, Option, Result, nat_le, nat_lt}
 use Rattle.racks.specs.declared.faults.RackFault.{RackFault}
 use Rattle.racks.specs.declared.faults.RackFault.TheVariants.{OutOfLimits, TooFewPlaces}
+use Rattle.racks.specs.declared.plan.Numbers.{Numbers}
 use Rattle.racks.specs.declared.plan.Plan.{Plan}
 
 -- Between two limits, both included.
@@ -21,6 +22,6 @@ abbrev pub rows_need : (bins depth : ℕ) → ℕ
 rows_need b d = b * d
 
 -- The check accepts what keeps the rules and carries on just what was told; otherwise it names the first rule broken.
-abbrev pub Planned : (fault : Option RackFault) → (bins depth total : ℕ) → Result Plan RackFault → Type 0
-Planned f b d t (Ok p) = (f ≡ None) × (p.bins ≡ b) × (p.depth ≡ d) × (p.total ≡ t)
-Planned f b d t (Err e) = f ≡ Some e
+abbrev pub Planned : (fault : Option RackFault) → Numbers → Result Plan RackFault → Type 0
+Planned f n (Ok p) = (f ≡ None) × (p.numbers ≡ n)
+Planned f n (Err e) = f ≡ Some e

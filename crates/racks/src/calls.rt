@@ -36,15 +36,6 @@ pub fn step<R: Rack>(rack: &mut R, call: RackCall<R::Item>) -> RackAnswer<R::Ite
     }
 }
 
-// Makes a call and lets its answer go.
-fn repeat<R: Rack>(rack: &mut R, call: &RackCall<R::Item>)
-    ensures next { R.Rack.bins rack.new ≡ next_of (R.Rack.depth rack.old) (R.Rack.total rack.old) (R.Rack.bins rack.old) call.now }
-    ensures depth { R.Rack.depth rack.new ≡ R.Rack.depth rack.old }
-    ensures total { R.Rack.total rack.new ≡ R.Rack.total rack.old }
-{
-    let _ = step(rack, *call);
-}
-
 // Makes calls on a rack, one after the other. From an empty rack, each bin is first in, first out:
 // the loads taken from it, followed by those in it, are the loads that were put into it, in order.
 pub fn drive<R: Rack>(rack: &mut R, calls: &[RackCall<R::Item>])
@@ -52,6 +43,6 @@ pub fn drive<R: Rack>(rack: &mut R, calls: &[RackCall<R::Item>])
     ensures order { is_empty (R.Rack.bins rack.old) ≡ true → FirstInFirstOut (R.Rack.depth rack.old) (R.Rack.total rack.old) (R.Rack.bins rack.old) calls.now (R.Rack.bins rack.new) }
 {
     for call in calls {
-        repeat(rack, call);
+        let _ = step(rack, *call);
     }
 }

@@ -1,27 +1,27 @@
 // The slots of a cells rack: any free place serves any bin, and each place has the number of the next one of its list.
-ghost use Rattle.std.specs.Prelude.{◌≡◌, ℕ, ◌+◌, ◌-◌, ◌<◌, ◌≤◌, ◌||◌, length, replicate, ◌==◌, ◌≢◌, nat_le, slice_index, slice_set};
+ghost use Rattle.std.specs.Prelude.{◌≡◌, ℕ, ◌+◌, ◌-◌, ◌<◌, ◌≤◌, length, replicate, ◌≢◌, slice_index, slice_set};
 ghost use Rattle.racks.specs.Bins.{held_in, empty_bins};
-ghost use Rattle.racks.specs.Chains.{chain_of, cells_lay, Once, Inside, Ends, Moved};
+ghost use Rattle.racks.specs.Chains.{firsts_of, lasts_of, counts_of, chain_of, cells_lay, Once, Inside, Ends, Moved};
 
+use crate::chains::Chain;
 use crate::faults::RackFault;
-use crate::lists::Lists;
-use crate::plan::Plan;
+use crate::plan::{Numbers, Plan};
 use crate::slots::{Sizes, Slots};
 
-// The list after the bins' own has the free places. No place is in two lists, and all lists together have every place.
+// A chain for each bin, and after theirs that of the free places. No place is in two, and all together have every
+// place. The next places stand in a list that is lent, as the loads do: a rack takes no memory of its own.
 #[derive(Drop)]
 pub struct CellSlots<'a> {
-    sizes: Sizes,
+    numbers: Numbers,
     next: &'a mut [u32],
-    lists: Lists,
-    ghost few_bins: { sizes.bins ≤ 32 },
-    ghost low_total: { sizes.total ≤ 1048576 },
-    ghost whole_room: { sizes.room ≡ sizes.total },
-    ghost next_long: { sizes.total ≤ length next.now },
-    ghost once: { Once (cells_lay (sizes.bins + 1) next.now lists.firsts lists.counts) },
-    ghost inside: { Inside sizes.total (cells_lay (sizes.bins + 1) next.now lists.firsts lists.counts) },
-    ghost ends: { Ends (sizes.bins + 1) next.now lists.firsts lists.lasts lists.counts },
-    ghost sum: { held_in (cells_lay (sizes.bins + 1) next.now lists.firsts lists.counts) ≡ sizes.total },
+    chains: [Chain; 33],
+    ghost few_bins: { numbers.bins ≤ 32 },
+    ghost low_total: { numbers.total ≤ 1048576 },
+    ghost next_long: { numbers.total ≤ length next.now },
+    ghost once: { Once (cells_lay (numbers.bins + 1) next.now (firsts_of chains) (counts_of chains)) },
+    ghost inside: { Inside numbers.total (cells_lay (numbers.bins + 1) next.now (firsts_of chains) (counts_of chains)) },
+    ghost ends: { Ends (numbers.bins + 1) next.now (firsts_of chains) (lasts_of chains) (counts_of chains) },
+    ghost sum: { held_in (cells_lay (numbers.bins + 1) next.now (firsts_of chains) (counts_of chains)) ≡ numbers.total },
 }
 
 // The total, where the list of next places is long enough for it.
@@ -42,151 +42,123 @@ fn link(next: &mut [u32], total: u32)
     requires { (total ≤ length next.old) × (total ≤ 1048576) }
     ensures { (k : ℕ) → k < total → slice_index next.new k ≡ k + 1 }
 {
-    for k in 0..total {
-        next[k as usize] = k + 1;
+    for (place, after) in next[..total as usize].iter_mut().enumerate() {
+        *after = place as u32 + 1;
     }
 }
 
-// The lists of a new store: every place is free.
-fn all_free(bins: u32, total: u32) -> Lists
+// The chains of a new store: every place is free.
+fn all_free(bins: u32, total: u32) -> [Chain; 33]
     requires { bins ≤ 32 }
-    ensures firsts { result.firsts ≡ replicate 33 0 }
-    ensures lasts { result.lasts ≡ slice_set (replicate 33 0) bins (total - 1) }
-    ensures counts { result.counts ≡ slice_set (replicate 33 0) bins total }
+    ensures firsts { firsts_of result ≡ replicate 33 0 }
+    ensures lasts { lasts_of result ≡ slice_set (replicate 33 0) bins (total - 1) }
+    ensures counts { counts_of result ≡ slice_set (replicate 33 0) bins total }
 {
-    let mut lasts = [0; 33];
-    let mut counts = [0; 33];
-    lasts[bins as usize] = total.saturating_sub(1);
-    counts[bins as usize] = total;
-    Lists {
-        firsts: [0; 33],
-        lasts,
-        counts,
-    }
+    let mut chains = [Chain {
+        first: 0,
+        last: 0,
+        count: 0,
+    }; 33];
+    chains[bins as usize] = Chain {
+        first: 0,
+        last: total.saturating_sub(1),
+        count: total,
+    };
+    chains
 }
 
 impl<'a> CellSlots<'a> {
     // Empty cells, as the plan says. Where next is shorter than was checked, no place serves.
     pub fn make(plan: Plan, next: &'a mut [u32]) -> CellSlots<'a>
-        ensures empty { cells_lay result.sizes.bins result.next.now result.lists.firsts result.lists.counts ≡ empty_bins plan.bins }
-        ensures depth { result.sizes.depth ≡ plan.depth }
-        ensures total { plan.total ≤ length next.old → result.sizes.total ≡ plan.total }
-        ensures room { result.sizes.room ≡ result.sizes.total }
+        ensures empty { cells_lay result.numbers.bins result.next.now (firsts_of result.chains) (counts_of result.chains) ≡ empty_bins plan.numbers.bins }
+        ensures depth { result.numbers.depth ≡ plan.numbers.depth }
+        ensures total { plan.numbers.total ≤ length next.old → result.numbers.total ≡ plan.numbers.total }
     {
-        let total = served(plan.total, next);
+        let total = served(plan.numbers.total, next);
         link(next, total);
-        let sizes = Sizes {
-            bins: plan.bins,
-            depth: plan.depth,
-            total,
-            room: total,
-        };
         CellSlots {
-            sizes,
+            numbers: Numbers {
+                total,
+                ..plan.numbers
+            },
             next,
-            lists: all_free(plan.bins, total),
+            chains: all_free(plan.numbers.bins, total),
         }
     }
 
-    // The bin is not there.
-    fn lacks(&self, bin: u32) -> bool
-        ensures { result ≡ nat_le self.now.sizes.bins bin }
+    // A bin's chain, or that of the free places.
+    fn chain(&self, list: u32) -> Chain
+        requires { list ≤ self.now.numbers.bins }
+        ensures first { result.first ≡ slice_index (firsts_of self.now.chains) list }
+        ensures last { result.last ≡ slice_index (lasts_of self.now.chains) list }
+        ensures count { result.count ≡ slice_index (counts_of self.now.chains) list }
     {
-        self.sizes.bins <= bin
+        self.chains[list as usize]
     }
 
-    // How many places a list has.
-    fn used(&self, list: u32) -> u32
-        requires { list ≤ self.now.sizes.bins }
-        ensures { result ≡ slice_index self.now.lists.counts list }
-    {
-        self.lists.counts[list as usize]
-    }
-
-    // The list of the free places.
+    // The number of the chain of the free places.
     fn free_list(&self) -> u32
-        ensures { result ≡ self.now.sizes.bins }
+        ensures { result ≡ self.now.numbers.bins }
     {
-        self.sizes.bins
+        self.numbers.bins
     }
 
-    // The bin holds as many loads as it may, or no place is free.
-    fn is_full(&self, bin: u32) -> bool
-        requires { bin < self.now.sizes.bins }
-        ensures { result ≡ (nat_le self.now.sizes.depth (slice_index self.now.lists.counts bin) || slice_index self.now.lists.counts self.now.sizes.bins == 0) }
-    {
-        self.sizes.depth <= self.used(bin) || self.used(self.free_list()) == 0
-    }
-
-    // The first place of a list, the oldest in use.
-    fn first(&self, list: u32) -> u32
-        requires { list ≤ self.now.sizes.bins }
-        ensures { result ≡ slice_index self.now.lists.firsts list }
-    {
-        self.lists.firsts[list as usize]
-    }
-
-    // The first place of one list goes to the end of another.
+    // The first place of one chain goes to the end of another.
     fn shift(&mut self, from: u32, to: u32) -> u32
-        requires { (from ≤ self.old.sizes.bins) × ((to ≤ self.old.sizes.bins) × (((from ≢ to)) × (0 < slice_index self.old.lists.counts from))) }
-        ensures moved { Moved (self.old.sizes.bins + 1) (chain_of self.old.next.now self.old.lists.firsts self.old.lists.counts) (chain_of self.new.next.now self.new.lists.firsts self.new.lists.counts) from to result }
-        ensures sizes { self.new.sizes ≡ self.old.sizes }
+        requires { (from ≤ self.old.numbers.bins) × ((to ≤ self.old.numbers.bins) × (((from ≢ to)) × (0 < slice_index (counts_of self.old.chains) from))) }
+        ensures moved { Moved (self.old.numbers.bins + 1) (chain_of self.old.next.now (firsts_of self.old.chains) (counts_of self.old.chains)) (chain_of self.new.next.now (firsts_of self.new.chains) (counts_of self.new.chains)) from to result }
+        ensures numbers { self.new.numbers ≡ self.old.numbers }
     {
-        let end = self.lists.lasts[to as usize];
-        let place = self.first(from);
+        let place = self.chain(from).first;
         let after = self.next[place as usize];
-        if self.used(to) == 0 {
-            self.lists.leave(from, after);
-            self.lists.start(to, place);
+        let taker = self.chain(to);
+        if taker.count == 0 {
+            self.chains[from as usize].leave(after);
+            self.chains[to as usize].start(place);
             return place;
         }
-        self.next[end as usize] = place;
-        self.lists.leave(from, after);
-        self.lists.join(to, place);
+        self.next[taker.last as usize] = place;
+        self.chains[from as usize].leave(after);
+        self.chains[to as usize].join(place);
         place
     }
 }
 
 impl<'a> Slots for CellSlots<'a> {
-    ghost lay = { λ s. cells_lay s.sizes.bins s.next.now s.lists.firsts s.lists.counts };
+    ghost lay = { λ s. cells_lay s.numbers.bins s.next.now (firsts_of s.chains) (counts_of s.chains) };
 
-    ghost depth = { λ s. s.sizes.depth };
+    ghost depth = { λ s. s.numbers.depth };
 
-    ghost total = { λ s. s.sizes.total };
+    ghost total = { λ s. s.numbers.total };
 
-    ghost room = { λ s. s.sizes.room };
+    ghost room = { λ s. s.numbers.total };
 
     fn sizes(&self) -> Sizes {
-        self.sizes
+        Sizes {
+            numbers: self.numbers,
+            room: self.numbers.total,
+        }
     }
 
     fn held(&self) -> u32 {
-        self.sizes.total - self.used(self.free_list())
+        self.numbers.total - self.chain(self.free_list()).count
     }
 
     fn holds(&self, bin: u32) -> Result<u32, RackFault> {
-        if self.lacks(bin) {
-            return Err(RackFault::NotThere);
-        }
-        Ok(self.used(bin))
+        self.numbers.check_bin(bin)?;
+        Ok(self.chain(bin).count)
     }
 
     fn give(&mut self, bin: u32) -> Result<u32, RackFault> {
-        if self.lacks(bin) {
-            return Err(RackFault::NotThere);
-        }
-        if self.is_full(bin) {
-            return Err(RackFault::Full);
-        }
+        self.numbers.check_bin(bin)?;
+        self.numbers.check_room(self.chain(bin).count, self.held())?;
         let free = self.free_list();
         Ok(self.shift(free, bin))
     }
 
     fn free(&mut self, bin: u32) -> Result<Option<u32>, RackFault> {
-        if self.lacks(bin) {
-            return Err(RackFault::NotThere);
-        }
-        if self.used(bin) == 0 {
+        self.numbers.check_bin(bin)?;
+        if self.chain(bin).count == 0 {
             return Ok(None);
         }
         let free = self.free_list();

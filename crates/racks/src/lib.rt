@@ -3,10 +3,11 @@
 
 pub mod calls;
 pub mod cells;
+mod chains;
 pub mod faults;
-mod lists;
 pub mod plan;
 pub mod rack;
+mod rings;
 pub mod rows;
 pub mod slots;
 pub mod store;

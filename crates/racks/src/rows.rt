@@ -1,137 +1,72 @@
 // The slots of a rows rack: each bin has depth places of its own, used as a ring.
-ghost use Rattle.std.specs.Prelude.{◌≡◌, ℕ, ◌+◌, ◌*◌, ◌%◌, ◌<◌, ◌≤◌, ◌||◌, nat_le, slice_index};
+ghost use Rattle.std.specs.Prelude.{◌≡◌, ℕ, ◌+◌, ◌*◌, ◌<◌, ◌≤◌, slice_index};
 ghost use Rattle.racks.specs.Bins.{held_in, empty_bins};
-ghost use Rattle.racks.specs.Rings.{rows_lay, ring_end};
+ghost use Rattle.racks.specs.Rings.{starts_of, counts_of, rows_lay};
 
 use crate::faults::RackFault;
 use crate::plan::Plan;
+use crate::rings::Ring;
 use crate::slots::{Sizes, Slots};
 
-// For each bin, where its ring starts and how many of its places are used; and how many are in all.
+// The ring of each bin, and how many places are used in all.
 #[derive(Drop)]
 pub struct RowSlots {
-    sizes: Sizes,
-    starts: [u32; 32],
-    counts: [u32; 32],
+    plan: Plan,
+    rings: [Ring; 32],
     held: u32,
-    ghost few_bins: { sizes.bins ≤ 32 },
-    ghost some_depth: { 0 < sizes.depth },
-    ghost low_depth: { sizes.depth ≤ 1048576 },
-    ghost whole_room: { sizes.room ≡ sizes.bins * sizes.depth },
-    ghost starts_within: { (b : ℕ) → b < sizes.bins → slice_index starts b < sizes.depth },
-    ghost counts_within: { (b : ℕ) → b < sizes.bins → slice_index counts b ≤ sizes.depth },
-    ghost sum: { held ≡ held_in (rows_lay sizes.bins sizes.depth starts counts) },
-}
-
-// The remainder of a number that is below twice the depth: no division.
-fn wrapped(at: u32, depth: u32) -> u32
-    requires { at < depth + depth }
-    ensures value { result ≡ at % depth }
-    ensures below { result < depth }
-{
-    if at < depth { at } else { at - depth }
-}
-
-// Depth places for each bin.
-fn row_sizes(plan: Plan) -> Sizes
-    ensures bins { result.bins ≡ plan.bins }
-    ensures depth { result.depth ≡ plan.depth }
-    ensures total { result.total ≡ plan.total }
-    ensures room { result.room ≡ plan.bins * plan.depth }
-{
-    Sizes {
-        bins: plan.bins,
-        depth: plan.depth,
-        total: plan.total,
-        room: plan.bins * plan.depth,
-    }
+    ghost starts_within: { (b : ℕ) → b < plan.numbers.bins → slice_index (starts_of rings) b < plan.numbers.depth },
+    ghost counts_within: { (b : ℕ) → b < plan.numbers.bins → slice_index (counts_of rings) b ≤ plan.numbers.depth },
+    ghost sum: { held ≡ held_in (rows_lay plan.numbers.bins plan.numbers.depth (starts_of rings) (counts_of rings)) },
 }
 
 impl RowSlots {
     // Empty rows, as the plan says.
     pub fn make(plan: Plan) -> RowSlots
-        ensures empty { rows_lay result.sizes.bins result.sizes.depth result.starts result.counts ≡ empty_bins plan.bins }
-        ensures depth { result.sizes.depth ≡ plan.depth }
-        ensures total { result.sizes.total ≡ plan.total }
-        ensures room { result.sizes.room ≡ plan.bins * plan.depth }
+        ensures empty { rows_lay result.plan.numbers.bins result.plan.numbers.depth (starts_of result.rings) (counts_of result.rings) ≡ empty_bins plan.numbers.bins }
+        ensures depth { result.plan.numbers.depth ≡ plan.numbers.depth }
+        ensures total { result.plan.numbers.total ≡ plan.numbers.total }
+        ensures room { result.plan.numbers.bins * result.plan.numbers.depth ≡ plan.numbers.bins * plan.numbers.depth }
     {
         RowSlots {
-            sizes: row_sizes(plan),
-            starts: [0; 32],
-            counts: [0; 32],
+            plan,
+            rings: [Ring { start: 0, count: 0 }; 32],
             held: 0,
         }
     }
 
-    // The bin is not there.
-    fn lacks(&self, bin: u32) -> bool
-        ensures { result ≡ nat_le self.now.sizes.bins bin }
+    // The ring of a bin.
+    fn ring(&self, bin: u32) -> Ring
+        requires { bin < self.now.plan.numbers.bins }
+        ensures start { result.start ≡ slice_index (starts_of self.now.rings) bin }
+        ensures count { result.count ≡ slice_index (counts_of self.now.rings) bin }
     {
-        self.sizes.bins <= bin
-    }
-
-    // How many places of a bin are used.
-    fn used(&self, row: u32) -> u32
-        requires { row < self.now.sizes.bins }
-        ensures { result ≡ slice_index self.now.counts row }
-    {
-        self.counts[row as usize]
-    }
-
-    // The bin, or all bins together, hold as many loads as they may.
-    fn is_full(&self, bin: u32) -> bool
-        requires { bin < self.now.sizes.bins }
-        ensures { result ≡ (nat_le self.now.sizes.depth (slice_index self.now.counts bin) || nat_le self.now.sizes.total self.now.held) }
-    {
-        self.sizes.depth <= self.used(bin) || self.sizes.total <= self.held
+        self.rings[bin as usize]
     }
 
     // The first place of a bin's row.
     fn base(&self, bin: u32) -> u32
-        requires { bin < self.now.sizes.bins }
-        ensures value { result ≡ bin * self.now.sizes.depth }
+        requires { bin < self.now.plan.numbers.bins }
+        ensures value { result ≡ bin * self.now.plan.numbers.depth }
         ensures low { result ≤ 32505856 }
     {
-        bin * self.sizes.depth
-    }
-
-    // The first place of a bin's ring that is not used, past those that are.
-    fn end(&self, bin: u32) -> u32
-        requires { (bin < self.now.sizes.bins) × (slice_index self.now.counts bin < self.now.sizes.depth) }
-        ensures { result ≡ ring_end self.now.sizes.depth bin (slice_index self.now.starts bin) (slice_index self.now.counts bin) }
-    {
-        let at = self.starts[bin as usize] + self.used(bin);
-        self.base(bin) + wrapped(at, self.sizes.depth)
-    }
-
-    // The oldest used place of a bin's ring.
-    fn oldest(&self, bin: u32) -> u32
-        requires { bin < self.now.sizes.bins }
-        ensures { result ≡ bin * self.now.sizes.depth + slice_index self.now.starts bin }
-    {
-        self.base(bin) + self.starts[bin as usize]
-    }
-
-    // The start of a bin's ring once its oldest place is free.
-    fn next_start(&self, bin: u32) -> u32
-        requires { bin < self.now.sizes.bins }
-        ensures { result ≡ (slice_index self.now.starts bin + 1) % self.now.sizes.depth }
-    {
-        wrapped(self.starts[bin as usize] + 1, self.sizes.depth)
+        bin * self.plan.numbers.depth
     }
 }
 
 impl Slots for RowSlots {
-    ghost lay = { λ s. rows_lay s.sizes.bins s.sizes.depth s.starts s.counts };
+    ghost lay = { λ s. rows_lay s.plan.numbers.bins s.plan.numbers.depth (starts_of s.rings) (counts_of s.rings) };
 
-    ghost depth = { λ s. s.sizes.depth };
+    ghost depth = { λ s. s.plan.numbers.depth };
 
-    ghost total = { λ s. s.sizes.total };
+    ghost total = { λ s. s.plan.numbers.total };
 
-    ghost room = { λ s. s.sizes.room };
+    ghost room = { λ s. s.plan.numbers.bins * s.plan.numbers.depth };
 
     fn sizes(&self) -> Sizes {
-        self.sizes
+        Sizes {
+            numbers: self.plan.numbers,
+            room: self.plan.row_places(),
+        }
     }
 
     fn held(&self) -> u32 {
@@ -139,35 +74,28 @@ impl Slots for RowSlots {
     }
 
     fn holds(&self, bin: u32) -> Result<u32, RackFault> {
-        if self.lacks(bin) {
-            return Err(RackFault::NotThere);
-        }
-        Ok(self.used(bin))
+        self.plan.numbers.check_bin(bin)?;
+        Ok(self.ring(bin).count)
     }
 
     fn give(&mut self, bin: u32) -> Result<u32, RackFault> {
-        if self.lacks(bin) {
-            return Err(RackFault::NotThere);
-        }
-        if self.is_full(bin) {
-            return Err(RackFault::Full);
-        }
-        let place = self.end(bin);
-        self.counts[bin as usize] += 1;
+        self.plan.numbers.check_bin(bin)?;
+        let ring = self.ring(bin);
+        self.plan.numbers.check_room(ring.count, self.held)?;
+        let place = self.base(bin) + ring.end(self.plan.numbers.depth);
+        self.rings[bin as usize].grow();
         self.held += 1;
         Ok(place)
     }
 
     fn free(&mut self, bin: u32) -> Result<Option<u32>, RackFault> {
-        if self.lacks(bin) {
-            return Err(RackFault::NotThere);
-        }
-        if self.used(bin) == 0 {
+        self.plan.numbers.check_bin(bin)?;
+        let ring = self.ring(bin);
+        if ring.count == 0 {
             return Ok(None);
         }
-        let place = self.oldest(bin);
-        self.starts[bin as usize] = self.next_start(bin);
-        self.counts[bin as usize] -= 1;
+        let place = self.base(bin) + ring.start;
+        self.rings[bin as usize].shrink(self.plan.numbers.depth);
         self.held -= 1;
         Ok(Some(place))
     }

@@ -1,16 +1,42 @@
-ghost use Rattle.std.specs.Prelude.{◌≡◌, ℕ, List, length};
+ghost use Rattle.std.specs.Prelude.{◌≡◌, ℕ, ◌<◌, ◌≤◌, ◌||◌, true, false, List, length, IfOk, IfErr, nat_le};
+ghost use Rattle.racks.specs.declared.faults.RackFault.TheVariants.{NotThere, Full};
 ghost use Rattle.racks.specs.Bins.{held_in, take_of, count_of};
 ghost use Rattle.racks.specs.Places.{Within, Given};
 
 use crate::faults::RackFault;
+use crate::plan::Numbers;
 
-// The numbers of a store: its bins, its depth and total, and its room, the places that it names at most.
+// The numbers of a store, and its room, the places that it names at most.
 #[derive(Clone, Copy)]
 pub struct Sizes {
-    pub bins: u32,
-    pub depth: u32,
-    pub total: u32,
+    pub numbers: Numbers,
     pub room: u32,
+}
+
+impl Numbers {
+    // Refuses a bin that is not there.
+    pub(crate) fn check_bin(&self, bin: u32) -> Result<(), RackFault>
+        ensures there { IfOk result (λ _. bin < self.now.bins) }
+        ensures missing { IfErr result (λ e. (e ≡ NotThere) × (self.now.bins ≤ bin)) }
+    {
+        if bin < self.bins {
+            Ok(())
+        } else {
+            Err(RackFault::NotThere)
+        }
+    }
+
+    // Refuses one more load where its bin, or all bins together, hold as many as they may.
+    pub(crate) fn check_room(&self, in_bin: u32, in_all: u32) -> Result<(), RackFault>
+        ensures room { IfOk result (λ _. (nat_le self.now.depth in_bin || nat_le self.now.total in_all) ≡ false) }
+        ensures full { IfErr result (λ e. (e ≡ Full) × ((nat_le self.now.depth in_bin || nat_le self.now.total in_all) ≡ true)) }
+    {
+        if self.depth <= in_bin || self.total <= in_all {
+            Err(RackFault::Full)
+        } else {
+            Ok(())
+        }
+    }
 }
 
 // Which places hold the loads of which bin, with no loads in it. Its meaning is the lay: for each bin the numbers of
@@ -25,9 +51,9 @@ pub trait Slots {
     ghost room: { Self → ℕ };
 
     fn sizes(&self) -> Sizes
-        ensures bins { result.bins ≡ length (lay self.now) }
-        ensures depth { result.depth ≡ depth self.now }
-        ensures total { result.total ≡ total self.now }
+        ensures bins { result.numbers.bins ≡ length (lay self.now) }
+        ensures depth { result.numbers.depth ≡ depth self.now }
+        ensures total { result.numbers.total ≡ total self.now }
         ensures room { result.room ≡ room self.now }
         ensures within { Within (room self.now) (lay self.now) };
 

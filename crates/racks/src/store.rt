@@ -1,5 +1,5 @@
-ghost use Rattle.std.specs.Prelude.{◌≡◌, ℕ, ◌<◌, length, nat_lt, slice_index_or, slice_set};
-ghost use Rattle.racks.specs.Bins.{empty_bins, is_empty};
+ghost use Rattle.std.specs.Prelude.{◌≡◌, ℕ, ◌<◌, length, nat_lt, slice_set};
+ghost use Rattle.racks.specs.Bins.{empty_bins};
 ghost use Rattle.racks.specs.Places.{Within, bins_over, total_over};
 
 use crate::faults::RackFault;
@@ -22,15 +22,6 @@ fn write<L: Drop>(places: &mut [L], place: u32, load: L)
     places[place as usize] = load;
 }
 
-// Reads a place, and leaves it as it is.
-fn read<L: Copy>(places: &mut [L], from: u32) -> L
-    requires { from < length places.old }
-    ensures got { result ≡ slice_index_or places.old from result }
-    ensures kept { places.new ≡ places.old }
-{
-    places[from as usize]
-}
-
 impl<'a, 'b, L: Load, S: Slots> Store<'a, 'b, L, S> {
     // Over slots that hold nothing all bins are empty.
     pub fn over(places: &'a mut [L], slots: &'b mut S) -> Store<'a, 'b, L, S>
@@ -47,25 +38,6 @@ impl<'a, 'b, L: Load, S: Slots> Store<'a, 'b, L, S> {
         ensures slots { result.slots.now ≡ slots.old }
     {
         Store { places, slots }
-    }
-
-    // How many bins the slots have, the most places that they use, and whether they use any.
-    fn lists(&self) -> u32
-        ensures { result ≡ length (S.Slots.lay self.now.slots.now) }
-    {
-        self.slots.sizes().bins
-    }
-
-    fn most(&self) -> u32
-        ensures { result ≡ S.Slots.total self.now.slots.now }
-    {
-        self.slots.sizes().total
-    }
-
-    fn is_unused(&self) -> bool
-        ensures { result ≡ is_empty (S.Slots.lay self.now.slots.now) }
-    {
-        self.slots.held() == 0
     }
 
     // The lent list is too short for the slots: such a rack holds nothing and has no room.
@@ -101,10 +73,10 @@ impl<'a, 'b, L: Load, S: Slots> Rack for Store<'a, 'b, L, S> {
             self.slots.holds(bin)?;
             return Ok(None);
         }
-        match self.slots.free(bin)? {
-            None => Ok(None),
-            Some(place) => Ok(Some(read(self.places, place))),
-        }
+        let Some(place) = self.slots.free(bin)? else {
+            return Ok(None);
+        };
+        Ok(Some(self.places[place as usize]))
     }
 
     fn count(&self, bin: u32) -> Result<u32, RackFault> {
@@ -116,21 +88,21 @@ impl<'a, 'b, L: Load, S: Slots> Rack for Store<'a, 'b, L, S> {
     }
 
     fn bin_count(&self) -> u32 {
-        self.lists()
+        self.slots.sizes().numbers.bins
     }
 
     fn depth(&self) -> u32 {
-        self.slots.sizes().depth
+        self.slots.sizes().numbers.depth
     }
 
     fn total(&self) -> u32 {
         if self.is_short() {
             return 0;
         }
-        self.most()
+        self.slots.sizes().numbers.total
     }
 
     fn is_empty(&self) -> bool {
-        self.is_short() || self.is_unused()
+        self.is_short() || self.slots.held() == 0
     }
 }

@@ -1,10 +1,11 @@
 -- The laws of a module over every history of calls.
-use Rattle.std.specs.Prelude.{◌≡◌, ℕ, suc, ◌+◌, ◌-◌, ◌*◌, ◌<◌, ◌≤◌, cond, List, ◌++◌, length, nat_lt}
+use Rattle.std.specs.Prelude.{◌≡◌, ℕ, suc, ◌+◌, ◌-◌, ◌*◌, ◌/◌, ◌<◌, ◌≤◌, cond, List, ◌++◌, length, nat_lt, slice_index_or}
 use Rattle.std.specs.List.{AllByRecursion}
 use Rattle.book.specs.declared.rows.Row.{Row}
 use Rattle.book.specs.declared.rows.Row.TheVariants.{Free, Held, Live, Leaving}
 use Rattle.book.specs.Ticks.{start_of}
-use Rattle.book.specs.Told.{SetNumbers, class_count, cycle_of, bins_of}
+use Rattle.book.specs.declared.setup.Class.{Class}
+use Rattle.book.specs.Told.{SetNumbers, no_class, class_count, cycle_of}
 use Rattle.book.specs.Rows.{octets_in}
 use Rattle.book.specs.Books.{row_of}
 use Rattle.placers.specs.Placers.{Rules}
@@ -15,9 +16,12 @@ use Rattle.schedule.specs.Wires.{Loads, wire_octets}
 use Rattle.schedule.specs.Modules.{clock_of}
 use Rattle.schedule.specs.Histories.{Call, after, written, given, left, waiting, Ended, octets_for}
 
--- The room that the bins of class c need.
+-- The room that the bins of a class need, and those of class c.
+abbrev pub room_for : Class → Room
+room_for k = record { bins = k.bins; depth = k.cycle / 84; total = k.bins * (k.cycle / 84) }
+
 abbrev pub room_in : SetNumbers → (c : ℕ) → Room
-room_in s c = record { bins = bins_of s c; depth = most_loads s c; total = bins_of s c * most_loads s c }
+room_in s c = room_for (slice_index_or s.classes c no_class)
 
 -- The rack that settings need: bins for all classes, in each as many loads as a cycle of the slowest class can carry,
 -- and in all bins as many as their classes' cycles can carry.

@@ -6,14 +6,14 @@ use book::faults::BookFault;
 use placers::faults::PlacerFault;
 
 // The part of a module that refuses.
-#[derive(Clone, Copy)]
+#[derive(Clone, Copy, PartialEq, Eq, Debug)]
 pub enum Layer {
     Port,
     Placer,
 }
 
 // Why a call on a port is refused; the first rule broken is named. Bookings are refused by the port's book itself.
-#[derive(Clone, Copy)]
+#[derive(Clone, Copy, PartialEq, Eq, Debug)]
 pub enum PortFault {
     // The settings break a rule of set.
     Settings(BookFault),

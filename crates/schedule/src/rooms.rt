@@ -1,48 +1,34 @@
-ghost use Rattle.std.specs.Prelude.{◌≡◌, ◌*◌, ◌/◌, ◌≤◌};
+ghost use Rattle.std.specs.Prelude.{◌≡◌, ◌*◌, ◌≤◌};
 ghost use Rattle.book.specs.Sets.{numbers_of};
-ghost use Rattle.schedule.specs.Laws.{room_in, room_of, LawsOf};
+ghost use Rattle.schedule.specs.Laws.{room_for, room_of, LawsOf};
 ghost use Rattle.schedule.specs.Streams.{Apart};
 
+use book::frames::SHORTEST_ON_WIRE;
 use book::setup::{Class, Settings};
 use loads::Load;
 use placers::placer::Placer;
 
 // The rack that a module needs: its bins, the most loads in one of them, and the most in all.
-#[derive(Clone, Copy)]
+#[derive(Clone, Copy, PartialEq, Eq, Debug, Default)]
 pub struct Room {
     pub bins: u32,
     pub depth: u32,
     pub total: u32,
 }
 
-// The most loads that a cycle of a class can carry: the shortest frame has 84 octets on the wire.
-fn most_loads(class: Class) -> u32
-    ensures value { result ≡ class.cycle / 84 }
-{
-    class.cycle / 84
-}
-
-// The room that the bins of one class need; none where the class is not there.
-fn room_in(settings: &Settings, class: u8) -> Room
-    ensures room { result ≡ room_in (numbers_of settings.now) class }
+// The room that the bins of a class need: in each as many loads as a cycle can carry.
+fn room_for(class: Class) -> Room
+    requires { (class.bins ≤ 8) × (class.cycle ≤ 1048576) }
+    ensures room { result ≡ room_for class }
     ensures bins { result.bins ≤ 8 }
     ensures total { result.total ≤ 8 * 12483 }
 {
-    match settings.class(class) {
-        Some(class) => {
-            let bins = u32::from(class.bins);
-            let most = most_loads(class);
-            Room {
-                bins,
-                depth: most,
-                total: bins * most,
-            }
-        }
-        None => Room {
-            bins: 0,
-            depth: 0,
-            total: 0,
-        },
+    let bins = u32::from(class.bins);
+    let depth = class.cycle / SHORTEST_ON_WIRE;
+    Room {
+        bins,
+        depth,
+        total: bins * depth,
     }
 }
 
@@ -50,18 +36,12 @@ fn room_in(settings: &Settings, class: u8) -> Room
 fn room_of(settings: &Settings) -> Room
     ensures { result ≡ room_of (numbers_of settings.now) }
 {
-    let mut room = Room {
-        bins: 0,
-        depth: 0,
-        total: 0,
-    };
-    for class in 0..settings.class_count() {
-        let own = room_in(settings, class);
-        room = Room {
-            bins: room.bins + own.bins,
-            depth: own.depth,
-            total: room.total + own.total,
-        };
+    let mut room = Room::default();
+    for class in settings.classes() {
+        let own = room_for(*class);
+        room.bins += own.bins;
+        room.depth = own.depth;
+        room.total += own.total;
     }
     room
 }

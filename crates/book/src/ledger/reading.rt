@@ -1,14 +1,13 @@
-ghost use Rattle.std.specs.Prelude.{◌≡◌, ◌<◌, ◌≤◌};
-ghost use Rattle.book.specs.Told.{class_count, cycle_of};
-ghost use Rattle.book.specs.Sums.{demand};
-ghost use Rattle.book.specs.Sets.{class_at};
+ghost use Rattle.std.specs.Prelude.{◌≡◌};
+ghost use Rattle.book.specs.Sets.{numbers_of, class_at};
 ghost use Rattle.book.specs.Books.{state_of, read_row, read_booked, read_spare};
 
 use crate::faults::BookFault;
-use crate::ledger::{Book, Note, calls};
+use crate::ledger::sums::Sums;
+use crate::ledger::{Book, Note};
 use crate::rows;
 use crate::rows::Row;
-use crate::setup::Class;
+use crate::setup::{Class, Settings};
 
 impl Note {
     // The stream whose hold the note is for.
@@ -20,6 +19,13 @@ impl Note {
 }
 
 impl Book {
+    // What the book was made with.
+    pub fn settings(&self) -> &Settings
+        ensures { numbers_of result.now ≡ (state_of self.now).settings }
+    {
+        &self.settings
+    }
+
     // A class by its number, if it is there.
     pub fn class(&self, class: u8) -> Option<Class>
         ensures { result ≡ class_at (state_of self.now).settings class }
@@ -36,10 +42,8 @@ impl Book {
     pub fn row(&self, stream: u8) -> Result<Row, BookFault>
         ensures { result ≡ read_row (state_of self.now) stream }
     {
-        if stream > 127 {
-            return Err(BookFault::NotThere);
-        }
-        Ok(self.rows[stream as usize])
+        let row = self.rows.get(usize::from(stream)).copied();
+        row.ok_or(BookFault::NotThere)
     }
 
     // The octets booked per cycle of a class.
@@ -52,22 +56,15 @@ impl Book {
         Ok(rows::booked(&self.rows, class))
     }
 
-    // The ticks that the bookings take of a class's cycle.
-    fn taken(&self, class: u8) -> u64
-        requires { class < class_count (state_of self.now).settings }
-        ensures sum { result ≡ demand (state_of self.now).settings (state_of self.now).rows class }
-        ensures within { result ≤ cycle_of (state_of self.now).settings class }
-    {
-        calls::demand(&self.settings, &self.rows, class)
-    }
-
     // The ticks that the bookings leave of a class's cycle.
     pub fn spare(&self, class: u8) -> Result<u64, BookFault>
         ensures { result ≡ read_spare (state_of self.now) class }
     {
-        if class >= self.settings.class_count() {
-            return Err(BookFault::NotThere);
-        }
-        Ok(u64::from(self.settings.cycle(class)) - self.taken(class))
+        let cycle = self.class(class).ok_or(BookFault::NotThere)?.cycle;
+        let sums = Sums {
+            settings: &self.settings,
+            rows: &self.rows,
+        };
+        Ok(u64::from(cycle) - sums.demand(class))
     }
 }

@@ -2,8 +2,18 @@ use book::faults::BookFault;
 use book::faults::BookFault::*;
 use book::ledger::Book;
 use book::rows::{Booking, Row};
-use book::setup::{Class, Settings};
+use book::setup::{Class, Settings, Setup};
 use std::test::Fail;
+
+// A booking of 64 octets at input 0.
+fn booking(class: u8, quota: u32) -> Booking {
+    Booking {
+        input: 0,
+        class,
+        longest: 64,
+        quota,
+    }
+}
 
 // Classes of 4,000 and 16,000 ticks with three and two bins, a dead time of 100 and one input.
 fn two_classes(number: u64) -> Result<Book, BookFault> {
@@ -15,11 +25,17 @@ fn two_classes(number: u64) -> Result<Book, BookFault> {
         cycle: 16_000,
         bins: 2,
     };
-    let settings = Settings::check(number, 0, 100, &[fast, slow], &[0])?;
+    let settings = Settings::check(&Setup {
+        number,
+        delay: 0,
+        dead_time: 100,
+        classes: &[fast, slow],
+        phases: &[0],
+    })?;
     Ok(Book::make(settings))
 }
 
-// A hold that is confirmed.
+// A hold that is confirmed. Each crate of tests has its own: a public function for it would be for tests alone.
 fn admit(book: &mut Book, stream: u8, booking: Booking) -> Result<(), BookFault> {
     let note = book.hold(stream, booking)?;
     match book.confirm(note) {
@@ -111,13 +127,7 @@ fn the_sums_of_all_faster_classes(rt: HostRuntime) -> Result<(), Fail> {
         ),
     ];
     for (stream, class, quota, answer) in cases {
-        let booking = Booking {
-            input: 0,
-            class,
-            longest: 64,
-            quota,
-        };
-        assert_eq!(rt; admit(&mut book, stream, booking), answer);
+        assert_eq!(rt; admit(&mut book, stream, booking(class, quota)), answer);
     }
     assert_eq!(rt;
         (book.booked(0), book.booked(1), book.booked(2)),
@@ -139,74 +149,49 @@ enum Call {
     Advance(u64),
 }
 
-// The state of a row, without its booking.
-#[derive(Clone, Copy, PartialEq, Eq, Debug)]
-enum State {
-    NotThere,
-    Free,
-    Held,
-    Live,
-    Leaving(u64),
-}
-
-fn state_of(book: &Book, stream: u8) -> State {
-    match book.row(stream) {
-        Ok(Row::Free) => State::Free,
-        Ok(Row::Held(_)) => State::Held,
-        Ok(Row::Live(_)) => State::Live,
-        Ok(Row::Leaving(_, until)) => State::Leaving(until),
-        Err(_) => State::NotThere,
-    }
-}
-
-// The answer of a call, 0 where it is accepted and answers no number.
-fn perform(book: &mut Book, call: Call) -> Result<u64, BookFault> {
-    let booking = Booking {
-        input: 0,
-        class: 0,
-        longest: 64,
-        quota: 84,
-    };
+// What the call answers, with the cycle that a release names.
+fn perform(book: &mut Book, call: Call) -> Result<Option<u64>, BookFault> {
     match call {
-        Call::Admit => admit(book, 5, booking)?,
-        Call::HoldAndDrop => hold_and_drop(book, 5, booking)?,
-        Call::Release => return book.release(5),
+        Call::Admit => admit(book, 5, booking(0, 84))?,
+        Call::HoldAndDrop => hold_and_drop(book, 5, booking(0, 84))?,
+        Call::Release => return book.release(5).map(Some),
         Call::Advance(until) => book.advance(until)?,
     }
-    Ok(0)
+    Ok(None)
 }
 
-// Call, answer, the row's state after it. Released in cycle 2 of a class with three bins, the row is free from the start of cycle 5 on.
+// Call, answer, the row after it. Released in cycle 2 of a class with three bins, the row is free from the start of cycle 5 on.
 #[test]
 fn a_row_through_all_its_states(rt: HostRuntime) -> Result<(), Fail> {
     let mut book = two_classes(0)?;
+    let held = booking(0, 84);
     let steps = [
-        (Call::Release, Err(WrongState), State::Free),
-        (Call::HoldAndDrop, Ok(0), State::Free),
-        (Call::Admit, Ok(0), State::Live),
-        (Call::Admit, Err(WrongState), State::Live),
-        (Call::Advance(9_000), Ok(0), State::Live),
-        (Call::Release, Ok(5), State::Leaving(5)),
-        (Call::Release, Err(WrongState), State::Leaving(5)),
-        (Call::HoldAndDrop, Err(WrongState), State::Leaving(5)),
-        (Call::Advance(8_999), Err(BadUntil), State::Leaving(5)),
-        (Call::Advance(19_999), Ok(0), State::Leaving(5)),
-        (Call::Advance(20_000), Ok(0), State::Free),
-        (Call::Admit, Ok(0), State::Live),
-        (Call::Release, Ok(8), State::Leaving(8)),
+        (Call::Release, Err(WrongState), Row::Free),
+        (Call::HoldAndDrop, Ok(None), Row::Free),
+        (Call::Admit, Ok(None), Row::Live(held)),
+        (Call::Admit, Err(WrongState), Row::Live(held)),
+        (Call::Advance(9_000), Ok(None), Row::Live(held)),
+        (Call::Release, Ok(Some(5)), Row::Leaving(held, 5)),
+        (Call::Release, Err(WrongState), Row::Leaving(held, 5)),
+        (Call::HoldAndDrop, Err(WrongState), Row::Leaving(held, 5)),
+        (Call::Advance(8_999), Err(BadUntil), Row::Leaving(held, 5)),
+        (Call::Advance(19_999), Ok(None), Row::Leaving(held, 5)),
+        (Call::Advance(20_000), Ok(None), Row::Free),
+        (Call::Admit, Ok(None), Row::Live(held)),
+        (Call::Release, Ok(Some(8)), Row::Leaving(held, 8)),
         (
             Call::Advance(1_099_511_627_776),
             Err(BadUntil),
-            State::Leaving(8),
+            Row::Leaving(held, 8),
         ),
-        (Call::Advance(1_099_511_627_775), Ok(0), State::Free),
+        (Call::Advance(1_099_511_627_775), Ok(None), Row::Free),
     ];
     for (call, answer, then) in steps {
         assert_eq!(rt; perform(&mut book, call), answer);
-        assert_eq!(rt; state_of(&book, 5), then);
+        assert_eq!(rt; book.row(5), Ok(then));
     }
     assert_eq!(rt; book.release(128), Err(NotThere));
-    assert_eq!(rt; state_of(&book, 128), State::NotThere);
+    assert_eq!(rt; book.row(128), Err(NotThere));
     Ok(())
 }
 
@@ -229,23 +214,14 @@ fn told_elsewhere(
 // A book of another number, and one of the same number whose row is not held.
 #[test]
 fn a_note_is_good_in_its_own_book_only(rt: HostRuntime) -> Result<(), Fail> {
-    let booking = Booking {
-        input: 0,
-        class: 0,
-        longest: 64,
-        quota: 84,
-    };
     for number in 0..2 {
         let mut book = two_classes(0)?;
         let mut other = two_classes(number)?;
         assert_eq!(rt;
-            told_elsewhere(&mut book, &mut other, booking)?,
+            told_elsewhere(&mut book, &mut other, booking(0, 84))?,
             Some(WrongState)
         );
-        assert_eq!(rt;
-            (state_of(&book, 5), state_of(&other, 5)),
-            (State::Free, State::Free)
-        );
+        assert_eq!(rt; (book.row(5), other.row(5)), (Ok(Row::Free), Ok(Row::Free)));
     }
     Ok(())
 }

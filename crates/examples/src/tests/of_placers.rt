@@ -1,4 +1,4 @@
-use book::setup::{Class, Settings};
+use book::setup::{Class, Settings, Setup};
 use book::ticks::LAST_TICK;
 use placers::by_count::ByCount;
 use placers::by_time::ByTime;
@@ -9,7 +9,7 @@ use placers::terms::{Ask, Terms};
 use std::process::Abort;
 use std::test::Fail;
 
-fn terms(cycle: u32, phase: u32, delay: u32, bins: u8) -> Terms {
+pub(super) fn terms(cycle: u32, phase: u32, delay: u32, bins: u8) -> Terms {
     Terms {
         cycle,
         phase,
@@ -28,34 +28,31 @@ fn frame(tick: u64, octets: u32) -> Ask {
     }
 }
 
-// What a frame alone gets by time, whatever the clock.
-fn alone_by_time(terms: Terms, stamp: u64, octets: u32, quota: u32) -> Result<u64, PlacerFault> {
-    let mut placer = ByTime::new();
-    placer.place(
-        0,
-        terms,
-        Ask {
-            clock: 0,
-            stamp,
-            octets,
-            quota,
-        },
-    )
+// What a frame alone gets.
+fn alone<P: Placer + Drop>(mut placer: P, terms: Terms, ask: Ask) -> Result<u64, PlacerFault> {
+    placer.place(0, terms, ask)
 }
 
-// What a frame alone gets by count, whatever the stamp.
+// By time, whatever the clock.
+fn alone_by_time(terms: Terms, stamp: u64, octets: u32, quota: u32) -> Result<u64, PlacerFault> {
+    let ask = Ask {
+        clock: 0,
+        stamp,
+        octets,
+        quota,
+    };
+    alone(ByTime::new(), terms, ask)
+}
+
+// By count, whatever the stamp.
 fn alone_by_count(terms: Terms, clock: u64, octets: u32, quota: u32) -> Result<u64, PlacerFault> {
-    let mut placer = ByCount::new();
-    placer.place(
-        0,
-        terms,
-        Ask {
-            clock,
-            stamp: 0,
-            octets,
-            quota,
-        },
-    )
+    let ask = Ask {
+        clock,
+        stamp: 0,
+        octets,
+        quota,
+    };
+    alone(ByCount::new(), terms, ask)
 }
 
 // Stamp, octets, quota, answer: cycle 4,000 with no phase and no delay, so a shift of 1.
@@ -167,11 +164,29 @@ fn by_count_with_odd_terms(rt: HostRuntime) {
     }
 }
 
-// Tick, octets, answer, one after the other: cycle 4,000, the quota of 1,000 met and passed in an input cycle.
+// Tick, octets, answer.
+type Step = (u64, u32, Result<u64, PlacerFault>);
+
+// One step after the other, and a last one with the stream made new.
+fn frame_after_frame<P: Placer + Drop>(
+    rt: &impl Abort,
+    mut placer: P,
+    terms: Terms,
+    steps: &[Step],
+    made_new: Step,
+) {
+    for (tick, octets, answer) in steps {
+        assert_eq!(rt; placer.place(0, terms, frame(*tick, *octets)), *answer);
+    }
+    placer.renew(0, terms);
+    let (tick, octets, answer) = made_new;
+    assert_eq!(rt; placer.place(0, terms, frame(tick, octets)), answer);
+}
+
+// Cycle 4,000, the quota of 1,000 met and passed in an input cycle.
 #[test]
 fn by_time_frame_after_frame(rt: HostRuntime) {
-    let mut placer = ByTime::new();
-    let cases = [
+    let steps = [
         (0, 600, Ok(1)),
         (700, 401, Err(NoRoom)),
         (700, 400, Ok(1)),
@@ -181,24 +196,19 @@ fn by_time_frame_after_frame(rt: HostRuntime) {
         (5_000, 84, Err(NoRoom)),
         (12_000, 84, Ok(4)),
     ];
-    for (tick, octets, answer) in cases {
-        assert_eq!(rt;
-            placer.place(0, terms(4_000, 0, 0, 2), frame(tick, octets)),
-            answer
-        );
-    }
-    placer.renew(0, terms(4_000, 0, 0, 2));
-    assert_eq!(rt;
-        placer.place(0, terms(4_000, 0, 0, 2), frame(12_000, 1_000)),
-        Ok(4)
+    frame_after_frame(
+        &rt,
+        ByTime::new(),
+        terms(4_000, 0, 0, 2),
+        &steps,
+        (12_000, 1_000, Ok(4)),
     );
 }
 
-// Tick, octets, answer, one after the other: cycle 4,000, the last of three bins reached and passed.
+// Cycle 4,000, the last of three bins reached and passed.
 #[test]
 fn by_count_frame_after_frame(rt: HostRuntime) {
-    let mut placer = ByCount::new();
-    let cases = [
+    let steps = [
         (100, 600, Ok(1)),
         (100, 600, Ok(2)),
         (100, 600, Err(NoRoom)),
@@ -212,16 +222,12 @@ fn by_count_frame_after_frame(rt: HostRuntime) {
         (12_000, 1_000, Ok(5)),
         (12_000, 84, Err(NoRoom)),
     ];
-    for (tick, octets, answer) in cases {
-        assert_eq!(rt;
-            placer.place(0, terms(4_000, 0, 0, 3), frame(tick, octets)),
-            answer
-        );
-    }
-    placer.renew(0, terms(4_000, 0, 0, 3));
-    assert_eq!(rt;
-        placer.place(0, terms(4_000, 0, 0, 3), frame(12_000, 84)),
-        Ok(4)
+    frame_after_frame(
+        &rt,
+        ByCount::new(),
+        terms(4_000, 0, 0, 3),
+        &steps,
+        (12_000, 84, Ok(4)),
     );
 }
 
@@ -284,7 +290,13 @@ fn terms_of_a_class_and_an_input(rt: HostRuntime) -> Result<(), Fail> {
         cycle: 16_000,
         bins: 4,
     };
-    let settings = Settings::check(0, 1, 100, &[fast, slow], &[0, 15_999])?;
+    let settings = Settings::check(&Setup {
+        number: 0,
+        delay: 1,
+        dead_time: 100,
+        classes: &[fast, slow],
+        phases: &[0, 15_999],
+    })?;
     let cases = [
         (0, 0, Some(terms(4_000, 0, 1, 3))),
         (0, 1, Some(terms(4_000, 3_999, 1, 3))),

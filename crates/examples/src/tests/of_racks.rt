@@ -4,7 +4,8 @@ use loads::marks::Mark;
 use racks::calls::{RackCall, drive};
 use racks::cells::CellSlots;
 use racks::faults::RackFault;
-use racks::plan::{Plan, check_cells, check_rows};
+use racks::faults::RackFault::*;
+use racks::plan::{Numbers, Plan, check_cells, check_rows};
 use racks::rack::Rack;
 use racks::rows::RowSlots;
 use racks::store::Store;
@@ -19,74 +20,65 @@ enum Call {
     Count(u32),
 }
 
-// What a call answered: a load by its stream, a refusal by its number.
+// What a call that is accepted answers: what is taken is told by its stream.
 #[derive(Clone, Copy, PartialEq, Eq, Debug)]
 enum Answer {
     Done,
-    Load(u8),
-    Nothing,
+    Took(Option<u8>),
     Holds(u32),
-    Refused(u8),
 }
 
-fn perform<R: Rack>(rack: &mut R, call: Call, load: R::Item) -> Answer {
+fn perform<R: Rack>(rack: &mut R, call: Call, load: R::Item) -> Result<Answer, RackFault> {
     match call {
-        Call::Put(bin) => match rack.put(bin, load) {
-            Ok(()) => Answer::Done,
-            Err(fault) => Answer::Refused(fault.number()),
-        },
-        Call::Take(bin) => match rack.take(bin) {
-            Ok(Some(load)) => Answer::Load(load.stream()),
-            Ok(None) => Answer::Nothing,
-            Err(fault) => Answer::Refused(fault.number()),
-        },
-        Call::Count(bin) => match rack.count(bin) {
-            Ok(count) => Answer::Holds(count),
-            Err(fault) => Answer::Refused(fault.number()),
-        },
+        Call::Put(bin) => {
+            rack.put(bin, load)?;
+            Ok(Answer::Done)
+        }
+        Call::Take(bin) => Ok(Answer::Took(rack.take(bin)?.map(|load| load.stream()))),
+        Call::Count(bin) => Ok(Answer::Holds(rack.count(bin)?)),
     }
 }
 
 // Call, stream, answer, on two bins of depth three with a total of four.
-const STEPS: [(Call, usize, Answer); 32] = [
-    (Call::Take(0), 0, Answer::Nothing),
-    (Call::Put(0), 1, Answer::Done),
-    (Call::Put(0), 2, Answer::Done),
-    (Call::Put(0), 3, Answer::Done),
+const STEPS: [(Call, usize, Result<Answer, RackFault>); 32] = [
+    (Call::Take(0), 0, Ok(Answer::Took(None))),
+    (Call::Put(0), 1, Ok(Answer::Done)),
+    (Call::Put(0), 2, Ok(Answer::Done)),
+    (Call::Put(0), 3, Ok(Answer::Done)),
     // A full bin, while all bins have room.
-    (Call::Put(0), 4, Answer::Refused(19)),
-    (Call::Count(0), 0, Answer::Holds(3)),
-    (Call::Put(1), 4, Answer::Done),
+    (Call::Put(0), 4, Err(Full)),
+    (Call::Count(0), 0, Ok(Answer::Holds(3))),
+    (Call::Put(1), 4, Ok(Answer::Done)),
     // All bins are full, while the bin has room.
-    (Call::Put(1), 5, Answer::Refused(19)),
-    (Call::Count(1), 0, Answer::Holds(1)),
-    (Call::Take(0), 0, Answer::Load(1)),
+    (Call::Put(1), 5, Err(Full)),
+    (Call::Count(1), 0, Ok(Answer::Holds(1))),
+    (Call::Take(0), 0, Ok(Answer::Took(Some(1)))),
     // The ring wraps around, and the cell is used again.
-    (Call::Put(0), 6, Answer::Done),
-    (Call::Put(0), 7, Answer::Refused(19)),
-    (Call::Take(0), 0, Answer::Load(2)),
-    (Call::Take(0), 0, Answer::Load(3)),
+    (Call::Put(0), 6, Ok(Answer::Done)),
+    (Call::Put(0), 7, Err(Full)),
+    (Call::Take(0), 0, Ok(Answer::Took(Some(2)))),
+    (Call::Take(0), 0, Ok(Answer::Took(Some(3)))),
     // Cells of one bin serve the other.
-    (Call::Put(1), 8, Answer::Done),
-    (Call::Put(1), 9, Answer::Done),
-    (Call::Put(1), 10, Answer::Refused(19)),
-    (Call::Take(0), 0, Answer::Load(6)),
-    (Call::Take(0), 0, Answer::Nothing),
+    (Call::Put(1), 8, Ok(Answer::Done)),
+    (Call::Put(1), 9, Ok(Answer::Done)),
+    (Call::Put(1), 10, Err(Full)),
+    (Call::Take(0), 0, Ok(Answer::Took(Some(6)))),
+    (Call::Take(0), 0, Ok(Answer::Took(None))),
     // All bins have room, and the bin is full.
-    (Call::Put(1), 10, Answer::Refused(19)),
-    (Call::Count(0), 0, Answer::Holds(0)),
-    (Call::Count(1), 0, Answer::Holds(3)),
+    (Call::Put(1), 10, Err(Full)),
+    (Call::Count(0), 0, Ok(Answer::Holds(0))),
+    (Call::Count(1), 0, Ok(Answer::Holds(3))),
     // The last bin is 1.
-    (Call::Put(2), 1, Answer::Refused(5)),
-    (Call::Take(2), 0, Answer::Refused(5)),
-    (Call::Count(2), 0, Answer::Refused(5)),
-    (Call::Put(4_294_967_295), 1, Answer::Refused(5)),
-    (Call::Take(1), 0, Answer::Load(4)),
-    (Call::Take(1), 0, Answer::Load(8)),
-    (Call::Take(1), 0, Answer::Load(9)),
-    (Call::Take(1), 0, Answer::Nothing),
-    (Call::Put(1), 11, Answer::Done),
-    (Call::Take(1), 0, Answer::Load(11)),
+    (Call::Put(2), 1, Err(NotThere)),
+    (Call::Take(2), 0, Err(NotThere)),
+    (Call::Count(2), 0, Err(NotThere)),
+    (Call::Put(4_294_967_295), 1, Err(NotThere)),
+    (Call::Take(1), 0, Ok(Answer::Took(Some(4)))),
+    (Call::Take(1), 0, Ok(Answer::Took(Some(8)))),
+    (Call::Take(1), 0, Ok(Answer::Took(Some(9)))),
+    (Call::Take(1), 0, Ok(Answer::Took(None))),
+    (Call::Put(1), 11, Ok(Answer::Done)),
+    (Call::Take(1), 0, Ok(Answer::Took(Some(11)))),
 ];
 
 // Goes through the steps on a new rack, and then through calls that leave it empty; the loads are numbered by their streams.
@@ -106,85 +98,55 @@ fn walk<R: Rack>(
     Ok(())
 }
 
-fn marks() -> [Mark; 12] {
-    let mut marks = [Mark::new(0, 64, 7); 12];
-    for stream in 0..12u8 {
-        marks[stream as usize] = Mark::new(stream, 64, 7);
-    }
-    marks
+// A load goes in, is counted and comes out.
+fn in_and_out<L>(load: L) -> [RackCall<L>; 3] {
+    [
+        RackCall::Put(1, load),
+        RackCall::Count(1),
+        RackCall::Take(1),
+    ]
 }
 
-fn lift_rows() -> [LiftRow; 12] {
-    let mut rows = [LiftRow::new(0, 7, [Hook::Down; 64]); 12];
-    for stream in 0..12u8 {
-        rows[stream as usize] = LiftRow::new(stream, 7, [Hook::Down; 64]);
-    }
-    rows
-}
+const NUMBERS: Numbers = Numbers {
+    bins: 2,
+    depth: 3,
+    total: 4,
+};
 
 // A rows rack and a cells rack over the same loads, on the same steps.
 fn side_by_side<L: Load>(
     rt: &impl Abort,
-    loads: &[L],
-    calls: &[RackCall<L>],
-    row_places: &mut [L],
-    cell_places: &mut [L],
-    next: &mut [u32],
+    loads: [L; 12],
+    calls: [RackCall<L>; 3],
 ) -> Result<(), Fail> {
-    let mut row_slots = RowSlots::make(check_rows(2, 3, 4, row_places)?);
-    let mut rows = Store::over(row_places, &mut row_slots);
-    walk(rt, &mut rows, loads, calls)?;
-    let mut cell_slots = CellSlots::make(check_cells(2, 3, 4, cell_places, next)?, next);
-    let mut cells = Store::over(cell_places, &mut cell_slots);
-    walk(rt, &mut cells, loads, calls)
+    let mut row_places = [loads[0]; 6];
+    let mut row_slots = RowSlots::make(check_rows(NUMBERS, &row_places)?);
+    let mut rows = Store::over(&mut row_places, &mut row_slots);
+    walk(rt, &mut rows, &loads, &calls)?;
+    let mut cell_places = [loads[0]; 4];
+    let mut next = [0; 4];
+    let mut cell_slots = CellSlots::make(check_cells(NUMBERS, &cell_places, &next)?, &mut next);
+    let mut cells = Store::over(&mut cell_places, &mut cell_slots);
+    walk(rt, &mut cells, &loads, &calls)
 }
+
+const STREAMS: [u8; 12] = [0, 1, 2, 3, 4, 5, 6, 7, 8, 9, 10, 11];
 
 #[test]
 fn both_racks_of_marks(rt: HostRuntime) -> Result<(), Fail> {
-    let loads = marks();
-    let mut row_places = [loads[0]; 6];
-    let mut cell_places = [loads[0]; 4];
-    let calls = [
-        RackCall::Put(1, loads[3]),
-        RackCall::Count(1),
-        RackCall::Take(1),
-    ];
-    side_by_side(
-        &rt,
-        &loads,
-        &calls,
-        &mut row_places,
-        &mut cell_places,
-        &mut [0; 4],
-    )
+    let loads = STREAMS.map(|stream| Mark::new(stream, 64, 7));
+    side_by_side(&rt, loads, in_and_out(loads[3]))
 }
 
 #[test]
 fn both_racks_of_lift_rows(rt: HostRuntime) -> Result<(), Fail> {
-    let loads = lift_rows();
-    let mut row_places = [loads[0]; 6];
-    let mut cell_places = [loads[0]; 4];
-    let calls = [
-        RackCall::Put(1, loads[3]),
-        RackCall::Count(1),
-        RackCall::Take(1),
-    ];
-    side_by_side(
-        &rt,
-        &loads,
-        &calls,
-        &mut row_places,
-        &mut cell_places,
-        &mut [0; 4],
-    )
+    let loads = STREAMS.map(|stream| LiftRow::new(stream, 7, [Hook::Down; 64]));
+    side_by_side(&rt, loads, in_and_out(loads[3]))
 }
 
-// The number of the refusal, 0 for a plan that passed.
-fn refusal(checked: Result<Plan, RackFault>) -> u8 {
-    match checked {
-        Ok(_) => 0,
-        Err(fault) => fault.number(),
-    }
+fn passes(checked: Result<Plan, RackFault>) -> Result<(), RackFault> {
+    checked?;
+    Ok(())
 }
 
 // Bins, depth, total, and what the checks of a rows rack and of a cells rack answer over 32 places.
@@ -192,52 +154,79 @@ fn refusal(checked: Result<Plan, RackFault>) -> u8 {
 fn every_limit_at_both_sides(rt: HostRuntime) {
     let places = [Mark::new(0, 64, 7); 32];
     let cases = [
-        (1, 1, 1, 0, 0),
-        (0, 1, 1, 2, 2),
-        (32, 1, 32, 0, 0),
-        (33, 1, 1, 2, 2),
-        (1, 0, 1, 2, 2),
-        (1, 1_048_576, 1, 4, 0),
-        (1, 1_048_577, 1, 2, 2),
-        (1, 1, 0, 2, 2),
-        (1, 1, 1_048_576, 0, 4),
-        (1, 1, 1_048_577, 2, 2),
+        (1, 1, 1, Ok(()), Ok(())),
+        (0, 1, 1, Err(OutOfLimits), Err(OutOfLimits)),
+        (32, 1, 32, Ok(()), Ok(())),
+        (33, 1, 1, Err(OutOfLimits), Err(OutOfLimits)),
+        (1, 0, 1, Err(OutOfLimits), Err(OutOfLimits)),
+        (1, 1_048_576, 1, Err(TooFewPlaces), Ok(())),
+        (1, 1_048_577, 1, Err(OutOfLimits), Err(OutOfLimits)),
+        (1, 1, 0, Err(OutOfLimits), Err(OutOfLimits)),
+        (1, 1, 1_048_576, Ok(()), Err(TooFewPlaces)),
+        (1, 1, 1_048_577, Err(OutOfLimits), Err(OutOfLimits)),
         // As many places as are needed, and one fewer.
-        (1, 32, 1, 0, 0),
-        (1, 33, 1, 4, 0),
-        (1, 1, 32, 0, 0),
-        (1, 1, 33, 0, 4),
-        (16, 2, 32, 0, 0),
-        (11, 3, 33, 4, 4),
+        (1, 32, 1, Ok(()), Ok(())),
+        (1, 33, 1, Err(TooFewPlaces), Ok(())),
+        (1, 1, 32, Ok(()), Ok(())),
+        (1, 1, 33, Ok(()), Err(TooFewPlaces)),
+        (16, 2, 32, Ok(()), Ok(())),
+        (11, 3, 33, Err(TooFewPlaces), Err(TooFewPlaces)),
         // Two rules broken: the first is named.
-        (4_294_967_295, 4_294_967_295, 4_294_967_295, 2, 2),
+        (
+            4_294_967_295,
+            4_294_967_295,
+            4_294_967_295,
+            Err(OutOfLimits),
+            Err(OutOfLimits),
+        ),
     ];
     for (bins, depth, total, rows, cells) in cases {
+        let numbers = Numbers { bins, depth, total };
         assert_eq!(rt;
             (
-                refusal(check_rows(bins, depth, total, &places)),
-                refusal(check_cells(bins, depth, total, &places, &[0; 32])),
+                passes(check_rows(numbers, &places)),
+                passes(check_cells(numbers, &places, &[0; 32])),
             ),
             (rows, cells)
         );
     }
     // Fewer numbers of next places than places.
-    assert_eq!(rt; refusal(check_cells(1, 1, 32, &places, &[0; 31])), 4);
+    let numbers = Numbers {
+        bins: 1,
+        depth: 1,
+        total: 32,
+    };
+    assert_eq!(rt;
+        passes(check_cells(numbers, &places, &[0; 31])),
+        Err(TooFewPlaces)
+    );
+}
+
+#[test]
+fn refusals_have_their_numbers(rt: HostRuntime) {
+    for (fault, number) in [
+        (OutOfLimits, 2),
+        (TooFewPlaces, 4),
+        (NotThere, 5),
+        (Full, 19),
+    ] {
+        assert_eq!(rt; fault.number(), number);
+    }
 }
 
 // A list that is shorter than the one checked: the rack holds nothing, and says so.
 #[test]
 fn a_shorter_list_than_checked(rt: HostRuntime) -> Result<(), Fail> {
     let load = Mark::new(1, 64, 7);
-    let plan = check_rows(2, 3, 4, &[load; 6])?;
+    let plan = check_rows(NUMBERS, &[load; 6])?;
     let mut slots = RowSlots::make(plan);
     let mut places = [load; 5];
     let mut rack = Store::over(&mut places, &mut slots);
     let cases = [
-        (Call::Put(1), Answer::Refused(19)),
-        (Call::Put(2), Answer::Refused(5)),
-        (Call::Take(1), Answer::Nothing),
-        (Call::Count(1), Answer::Holds(0)),
+        (Call::Put(1), Err(Full)),
+        (Call::Put(2), Err(NotThere)),
+        (Call::Take(1), Ok(Answer::Took(None))),
+        (Call::Count(1), Ok(Answer::Holds(0))),
     ];
     for (call, answer) in cases {
         assert_eq!(rt; perform(&mut rack, call, load), answer);
@@ -251,7 +240,12 @@ fn a_shorter_list_than_checked(rt: HostRuntime) -> Result<(), Fail> {
 fn a_sequence_of_calls(rt: HostRuntime) -> Result<(), Fail> {
     let first = Mark::new(1, 64, 7);
     let second = Mark::new(2, 64, 8);
-    let mut slots = RowSlots::make(check_rows(1, 2, 2, &[first; 2])?);
+    let numbers = Numbers {
+        bins: 1,
+        depth: 2,
+        total: 2,
+    };
+    let mut slots = RowSlots::make(check_rows(numbers, &[first; 2])?);
     let mut places = [first; 2];
     let mut rack = Store::over(&mut places, &mut slots);
     let calls = [
@@ -267,7 +261,7 @@ fn a_sequence_of_calls(rt: HostRuntime) -> Result<(), Fail> {
             perform(&mut rack, Call::Count(0), first),
             perform(&mut rack, Call::Take(0), first),
         ),
-        (Answer::Holds(1), Answer::Load(2))
+        (Ok(Answer::Holds(1)), Ok(Answer::Took(Some(2))))
     );
     Ok(())
 }

@@ -1,18 +1,10 @@
-ghost use Rattle.std.specs.Prelude.{◌≡◌, ◌*◌, ◌%◌, ◌<◌, ◌≤◌, IfSome};
+ghost use Rattle.std.specs.Prelude.{◌≡◌, ◌*◌, ◌≤◌, IfSome};
 ghost use Rattle.book.specs.Sets.{numbers_of};
 ghost use Rattle.placers.specs.Terms.{input_cycle, is_inside, current, shift_in, LegalTerms, terms_at};
 
 use crate::terms::Terms;
 use book::setup::{Class, Settings};
-use book::ticks::LAST_TICK;
-
-// The phase of an input in the cycle of a class.
-fn phase_in(class: Class, phase: u32) -> u32
-    requires { 0 < class.cycle }
-    ensures { result ≡ phase % class.cycle }
-{
-    phase % class.cycle
-}
+use book::ticks::{LAST_TICK, shift};
 
 impl Terms {
     // The terms of a class and an input of checked settings, if both are there.
@@ -24,7 +16,7 @@ impl Terms {
         let phase = settings.phase(input)?;
         Some(Terms {
             cycle: class.cycle,
-            phase: phase_in(class, phase),
+            phase: class.phase_in(phase),
             delay: settings.delay(),
             bins: class.bins,
         })
@@ -36,11 +28,11 @@ impl Terms {
         ensures bound { result ≤ tick }
         ensures start { result * self.now.cycle ≤ tick }
     {
-        if self.cycle == 0 {
-            0
-        } else {
-            tick / u64::from(self.cycle)
-        }
+        let class = Class {
+            cycle: self.cycle,
+            bins: self.bins,
+        };
+        class.cycle_at(tick)
     }
 
     // The input cycle that holds a tick.
@@ -69,10 +61,6 @@ impl Terms {
         ensures value { result ≡ shift_in self.now }
         ensures bound { result ≤ 12884901888 }
     {
-        if self.cycle == 0 {
-            return 1;
-        }
-        let cycle = u64::from(self.cycle);
-        1 + (u64::from(self.phase) + u64::from(self.delay) + (cycle - 1)) / cycle
+        shift(self.delay, self.cycle, self.phase)
     }
 }

@@ -3,8 +3,8 @@ ghost use Rattle.book.specs.Books.{state_of, held_by, hold_of, confirm_of, drop_
 ghost use Rattle.schedule.specs.Histories.{Hold, Confirm, DropHold, Release, held, spent, released};
 ghost use Rattle.port.specs.Standing.{meant, ByRules};
 
+use crate::numbers::ClassAt;
 use crate::ports::Port;
-use crate::{numbers, rowed};
 use book::faults::BookFault;
 use book::ledger::Note;
 use book::rows::Booking;
@@ -17,7 +17,7 @@ impl<R: Rack, P: Placer> Port<R, P> {
         ensures answer { result ≡ (hold_of (state_of self.old.book) stream booking).0 }
         ensures next { state_of self.new.book ≡ (hold_of (state_of self.old.book) stream booking).1 }
         ensures spendable { IfOk result (λ note. held_by (state_of self.new.book) note ≡ true) }
-        ensures follows { ByRules (meant R.Rack.bins R.Rack.depth R.Rack.total R.Item.Load.stream_of R.Item.Load.length_of P.Placer.records P.Placer.rules) (Hold stream booking) self.old self.new (held result) }
+        ensures follows { ByRules (meant R.Rack R.Item.Load P.Placer) (Hold stream booking) self.old self.new (held result) }
     {
         self.book.hold(stream, booking)
     }
@@ -27,16 +27,20 @@ impl<R: Rack, P: Placer> Port<R, P> {
     pub fn confirm(&mut self, note: Note) -> Result<(), (BookFault, Note)>
         ensures answer { result ≡ (confirm_of (state_of self.old.book) note).0 }
         ensures next { state_of self.new.book ≡ (confirm_of (state_of self.old.book) note).1 }
-        ensures follows { ByRules (meant R.Rack.bins R.Rack.depth R.Rack.total R.Item.Load.stream_of R.Item.Load.length_of P.Placer.records P.Placer.rules) (Confirm note) self.old self.new (spent result) }
+        ensures follows { ByRules (meant R.Rack R.Item.Load P.Placer) (Confirm note) self.old self.new (spent result) }
     {
         let stream = note.stream();
-        let Some(booking) = rowed::held_booking(&self.book, stream) else {
+        let Some(booking) = self.held(stream) else {
             return self.book.confirm(note);
         };
+        let class = ClassAt {
+            settings: self.book.settings(),
+            number: booking.class,
+        };
+        let terms = class.terms(booking.input);
         self.book.confirm(note)?;
-        let terms = numbers::terms_of(&self.settings, booking.class, booking.input);
         self.placer.renew(stream, terms);
-        self.stamps.note(stream, 0);
+        self.stamps.write(stream, 0);
         Ok(())
     }
 
@@ -44,7 +48,7 @@ impl<R: Rack, P: Placer> Port<R, P> {
     pub fn drop_hold(&mut self, note: Note) -> Result<(), (BookFault, Note)>
         ensures answer { result ≡ (drop_of (state_of self.old.book) note).0 }
         ensures next { state_of self.new.book ≡ (drop_of (state_of self.old.book) note).1 }
-        ensures follows { ByRules (meant R.Rack.bins R.Rack.depth R.Rack.total R.Item.Load.stream_of R.Item.Load.length_of P.Placer.records P.Placer.rules) (DropHold note) self.old self.new (spent result) }
+        ensures follows { ByRules (meant R.Rack R.Item.Load P.Placer) (DropHold note) self.old self.new (spent result) }
     {
         self.book.drop_hold(note)
     }
@@ -53,7 +57,7 @@ impl<R: Rack, P: Placer> Port<R, P> {
     pub fn release(&mut self, stream: u8) -> Result<u64, BookFault>
         ensures answer { result ≡ (release_of (state_of self.old.book) stream).0 }
         ensures next { state_of self.new.book ≡ (release_of (state_of self.old.book) stream).1 }
-        ensures follows { ByRules (meant R.Rack.bins R.Rack.depth R.Rack.total R.Item.Load.stream_of R.Item.Load.length_of P.Placer.records P.Placer.rules) (Release stream) self.old self.new (released result) }
+        ensures follows { ByRules (meant R.Rack R.Item.Load P.Placer) (Release stream) self.old self.new (released result) }
     {
         self.book.release(stream)
     }

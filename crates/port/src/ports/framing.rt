@@ -1,115 +1,95 @@
-ghost use Rattle.std.specs.Prelude.{◌≡◌, ◌+◌, ◌&&◌, nat_le, nat_lt};
+ghost use Rattle.std.specs.Prelude.{◌≡◌};
 ghost use Rattle.book.specs.Ticks.{inside};
 ghost use Rattle.book.specs.Books.{state_of};
 ghost use Rattle.schedule.specs.Modules.{booked_fault, good_stamp, not_there, ask_of};
 ghost use Rattle.schedule.specs.Histories.{Frame, placed};
-ghost use Rattle.port.specs.Stamped.{stamps_of};
-ghost use Rattle.port.specs.Rowed.{live_booking};
-ghost use Rattle.port.specs.Standing.{loads_by, meant, module_of, Agreed, ByRules};
-ghost use Rattle.port.specs.Admitted.{admitted};
+ghost use Rattle.port.specs.Standing.{meant, of_port, ByRules};
+ghost use Rattle.port.specs.Admitted.{unless, admitted};
 
-use crate::numbers::LAST_STREAM;
+use crate::numbers;
+use crate::numbers::ClassAt;
 use crate::ports::Port;
-use crate::{numbers, rowed};
-use book::rows::Booking;
+use book::frames;
+use book::rows::{Booking, LAST_STREAM};
 use loads::Load;
 use placers::placer::Placer;
 use placers::terms::Ask;
 use racks::rack::Rack;
 use schedule::faults::PortFault;
 
-// A stamp is not after the clock, and not longer before it than the delay.
-fn is_soon(clock: u64, stamp: u64, delay: u32) -> bool
-    ensures { result ≡ (nat_le stamp clock && nat_le clock (stamp + delay)) }
-{
-    stamp <= clock && clock - stamp <= u64::from(delay)
+// A frame that is handed over: the input from which it came, the stamp of its arrival, and its load.
+#[derive(Clone, Copy)]
+struct Handed<L> {
+    input: u8,
+    stamp: u64,
+    load: L,
 }
 
-// The length of a frame that its booking allows.
-fn is_allowed<L: Load>(load: &L, booking: Booking) -> bool
-    ensures { result ≡ inside 64 booking.longest (L.Load.length_of load.now) }
-{
-    numbers::is_length(load.length(), booking.longest)
+impl<L: Load> Handed<L> {
+    // The length is one that its booking allows.
+    fn is_allowed(&self, booking: Booking) -> bool
+        ensures { result ≡ inside 64 booking.longest (L.Load.length_of self.now.load) }
+    {
+        numbers::is_length(self.load.length(), booking.longest)
+    }
 }
 
 impl<R: Rack, P: Placer> Port<R, P> {
     // The stream or the input is not there.
-    fn lacks(&self, input: u8, load: &R::Item) -> bool
-        ensures { Agreed self.now → result ≡ not_there (loads_by R.Item.Load.stream_of R.Item.Load.length_of) P.Placer.rules (module_of (meant R.Rack.bins R.Rack.depth R.Rack.total R.Item.Load.stream_of R.Item.Load.length_of P.Placer.records P.Placer.rules) self.now) input load.now }
+    fn lacks(&self, frame: &Handed<R::Item>) -> bool
+        ensures { result ≡ of_port not_there (meant R.Rack R.Item.Load P.Placer) self.now frame.now.input frame.now.load }
     {
-        load.stream() > LAST_STREAM || input >= self.settings.input_count()
+        frame.load.stream() > LAST_STREAM || frame.input >= self.book.settings().input_count()
     }
 
     // The stamp is not after the clock, and not longer before it than the delay.
     fn is_timely(&self, stamp: u64) -> bool
-        ensures { Agreed self.now → result ≡ good_stamp (loads_by R.Item.Load.stream_of R.Item.Load.length_of) P.Placer.rules (module_of (meant R.Rack.bins R.Rack.depth R.Rack.total R.Item.Load.stream_of R.Item.Load.length_of P.Placer.records P.Placer.rules) self.now) stamp }
+        ensures { result ≡ of_port good_stamp (meant R.Rack R.Item.Load P.Placer) self.now stamp }
     {
-        is_soon(self.book.clock(), stamp, self.settings.delay())
+        let clock = self.book.clock();
+        stamp <= clock && clock - stamp <= u64::from(self.book.settings().delay())
     }
 
-    // The stamp is before the last that was accepted of the stream.
-    fn goes_back(&self, stamp: u64, load: &R::Item) -> bool
-        ensures { result ≡ nat_lt stamp (stamps_of self.now.stamps (R.Item.Load.stream_of load.now)) }
+    // The checks of a frame by its booking.
+    fn check(&self, booking: Booking, frame: &Handed<R::Item>) -> Result<(), PortFault>
+        ensures { result ≡ unless (of_port booked_fault (meant R.Rack R.Item.Load P.Placer) self.now booking frame.now.input frame.now.stamp frame.now.load) tt }
     {
-        stamp < self.stamps.last(load.stream())
-    }
-
-    // The booking of a live row.
-    fn booking_of(&self, load: &R::Item) -> Option<Booking>
-        ensures { result ≡ live_booking (state_of self.now.book) (R.Item.Load.stream_of load.now) }
-    {
-        rowed::live_booking(&self.book, load.stream())
-    }
-
-    // The first check that a frame fails by its booking.
-    fn booked_fault(
-        &self,
-        booking: Booking,
-        input: u8,
-        stamp: u64,
-        load: &R::Item,
-    ) -> Option<PortFault>
-        ensures { Agreed self.now → result ≡ booked_fault (loads_by R.Item.Load.stream_of R.Item.Load.length_of) P.Placer.rules (module_of (meant R.Rack.bins R.Rack.depth R.Rack.total R.Item.Load.stream_of R.Item.Load.length_of P.Placer.records P.Placer.rules) self.now) booking input stamp load.now }
-    {
-        if input != booking.input {
-            return Some(PortFault::WrongInput);
+        if frame.input != booking.input {
+            return Err(PortFault::WrongInput);
         }
-        if !is_allowed(load, booking) {
-            return Some(PortFault::BadLength);
+        if !frame.is_allowed(booking) {
+            return Err(PortFault::BadLength);
         }
-        if !self.is_timely(stamp) {
-            return Some(PortFault::BadStamp);
+        if !self.is_timely(frame.stamp) {
+            return Err(PortFault::BadStamp);
         }
-        if self.goes_back(stamp, load) {
-            return Some(PortFault::StampBack);
+        let last = self.stamps.read(frame.load.stream()).unwrap_or(0);
+        if frame.stamp < last {
+            return Err(PortFault::StampBack);
         }
-        None
+        Ok(())
     }
 
     // The booking by which a frame is placed, if it passes every check before.
-    fn admitted(&self, input: u8, stamp: u64, load: &R::Item) -> Result<Booking, PortFault>
-        ensures { Agreed self.now → result ≡ admitted (loads_by R.Item.Load.stream_of R.Item.Load.length_of) P.Placer.rules (module_of (meant R.Rack.bins R.Rack.depth R.Rack.total R.Item.Load.stream_of R.Item.Load.length_of P.Placer.records P.Placer.rules) self.now) input stamp load.now }
+    fn admitted(&self, frame: &Handed<R::Item>) -> Result<Booking, PortFault>
+        ensures { result ≡ of_port admitted (meant R.Rack R.Item.Load P.Placer) self.now frame.now.input frame.now.stamp frame.now.load }
     {
-        if self.lacks(input, load) {
+        if self.lacks(frame) {
             return Err(PortFault::NotThere);
         }
-        let Some(booking) = self.booking_of(load) else {
-            return Err(PortFault::NotLive);
-        };
-        match self.booked_fault(booking, input, stamp, load) {
-            Some(fault) => Err(fault),
-            None => Ok(booking),
-        }
+        let booking = self.live(frame.load.stream()).ok_or(PortFault::NotLive)?;
+        self.check(booking, frame)?;
+        Ok(booking)
     }
 
     // What the placer is asked.
-    fn ask_of(&self, booking: Booking, stamp: u64, load: &R::Item) -> Ask
-        ensures { result ≡ ask_of (loads_by R.Item.Load.stream_of R.Item.Load.length_of) P.Placer.rules (module_of (meant R.Rack.bins R.Rack.depth R.Rack.total R.Item.Load.stream_of R.Item.Load.length_of P.Placer.records P.Placer.rules) self.now) booking stamp load.now }
+    fn ask_of(&self, booking: Booking, frame: &Handed<R::Item>) -> Ask
+        ensures { result ≡ of_port ask_of (meant R.Rack R.Item.Load P.Placer) self.now booking frame.now.stamp frame.now.load }
     {
         Ask {
             clock: self.book.clock(),
-            stamp,
-            octets: numbers::wire_octets(load.length()),
+            stamp: frame.stamp,
+            octets: frames::wire_octets(frame.load.length()),
             quota: booking.quota,
         }
     }
@@ -117,21 +97,21 @@ impl<R: Rack, P: Placer> Port<R, P> {
     // Hands a frame over: it gets a cycle, and waits in the bin of that cycle. A rack with the room of the plan takes every load,
     // so that its refusal, where the port stands after a history, never comes.
     pub fn frame(&mut self, input: u8, stamp: u64, load: R::Item) -> Result<u64, PortFault>
-        ensures follows { ByRules (meant R.Rack.bins R.Rack.depth R.Rack.total R.Item.Load.stream_of R.Item.Load.length_of P.Placer.records P.Placer.rules) (Frame input stamp load) self.old self.new (placed result) }
+        ensures follows { ByRules (meant R.Rack R.Item.Load P.Placer) (Frame input stamp load) self.old self.new (placed result) }
         ensures book { state_of self.new.book ≡ state_of self.old.book }
     {
+        let frame = Handed { input, stamp, load };
         let stream = load.stream();
-        let booking = self.admitted(input, stamp, &load)?;
-        let terms = numbers::terms_of(&self.settings, booking.class, booking.input);
-        let ask = self.ask_of(booking, stamp, &load);
-        let cycle = self.placer.place(stream, terms, ask)?;
-        let bin = numbers::bin_of(&self.settings, booking.class, cycle);
-        match self.rack.put(bin, load) {
-            Ok(()) => {
-                self.stamps.note(stream, stamp);
-                Ok(cycle)
-            }
-            Err(_) => Err(PortFault::BadRack),
-        }
+        let booking = self.admitted(&frame)?;
+        let ask = self.ask_of(booking, &frame);
+        let class = ClassAt {
+            settings: self.book.settings(),
+            number: booking.class,
+        };
+        let cycle = self.placer.place(stream, class.terms(booking.input), ask)?;
+        let bin = class.bin_of(cycle);
+        self.rack.put(bin, load).map_err(|_| PortFault::BadRack)?;
+        self.stamps.write(stream, stamp);
+        Ok(cycle)
     }
 }

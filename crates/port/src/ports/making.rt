@@ -7,9 +7,9 @@ ghost use Rattle.port.specs.Standing.{loads_by, meant, parts_of, Stands};
 
 use crate::plan::Plan;
 use crate::ports::Port;
-use crate::stamps::Stamps;
 use book::ledger::Book;
 use placers::placer::Placer;
+use placers::table::Table;
 use racks::rack::Rack;
 
 impl<R: Rack, P: Placer> Port<R, P> {
@@ -18,15 +18,14 @@ impl<R: Rack, P: Placer> Port<R, P> {
         ensures book { state_of result.book ≡ new_book (numbers_of plan.settings) }
         ensures rack { result.rack ≡ rack }
         ensures placer { result.placer ≡ placer }
-        ensures stands { has_room (room_of (numbers_of plan.settings)) (R.Rack.bins rack) (R.Rack.depth rack) (R.Rack.total rack) ≡ true → Stands (loads_by R.Item.Load.stream_of R.Item.Load.length_of) P.Placer.rules (numbers_of plan.settings) (P.Placer.records placer) [] (parts_of (meant R.Rack.bins R.Rack.depth R.Rack.total R.Item.Load.stream_of R.Item.Load.length_of P.Placer.records P.Placer.rules) result) }
+        ensures stands { has_room R.Rack (room_of (numbers_of plan.settings)) rack ≡ true → Stands (loads_by R.Item.Load) P.Placer.rules (numbers_of plan.settings) (P.Placer.records placer) [] (parts_of (meant R.Rack R.Item.Load P.Placer) result) }
     {
         Port {
-            settings: plan.settings,
             book: Book::make(plan.settings),
             rack,
             placer,
             wire: 0,
-            stamps: Stamps::new(),
+            stamps: Table::of(0),
         }
     }
 }

@@ -1,13 +1,22 @@
 ghost use Rattle.std.specs.Prelude.{◌≡◌};
 ghost use Rattle.book.specs.Sets.{class_at};
 ghost use Rattle.book.specs.Books.{state_of, read_row, read_booked, read_spare};
+ghost use Rattle.port.specs.Rowed.{held_booking, live_booking};
 
 use crate::ports::Port;
 use book::faults::BookFault;
-use book::rows::Row;
+use book::ledger::Book;
+use book::rows::{Booking, Row};
 use book::setup::Class;
 
 impl<R, P> Port<R, P> {
+    // The port's own book, to be read.
+    pub fn book(&self) -> &Book
+        ensures { result.now ≡ self.now.book }
+    {
+        &self.book
+    }
+
     pub fn clock(&self) -> u64
         ensures { result ≡ (state_of self.now.book).clock }
     {
@@ -32,6 +41,21 @@ impl<R, P> Port<R, P> {
         ensures { result ≡ read_row (state_of self.now.book) stream }
     {
         self.book.row(stream)
+    }
+
+    // The booking of a stream that is there and whose row is held. It and the live one are read in a line each, so that one
+    // function over both would be no plainer.
+    pub(crate) fn held(&self, stream: u8) -> Option<Booking>
+        ensures { result ≡ held_booking (state_of self.now.book) stream }
+    {
+        self.row(stream).ok()?.held()
+    }
+
+    // The booking of a stream that is there and whose row is live.
+    pub(crate) fn live(&self, stream: u8) -> Option<Booking>
+        ensures { result ≡ live_booking (state_of self.now.book) stream }
+    {
+        self.row(stream).ok()?.live()
     }
 
     // The octets booked per cycle of a class.

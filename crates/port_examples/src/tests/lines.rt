@@ -1,8 +1,11 @@
-use book::rows::{Booking, Row};
+use super::ports::{booking, setup};
+use book::faults::BookFault;
+use book::rows::Row;
 use book::setup::Class;
 use line::banks::Bank;
-use line::faults::LineFault;
-use line::legs::Leg;
+use line::faults::LineFault::*;
+use line::faults::{LegFault, LineFault};
+use line::legs::{Leg, Request};
 use line::paths::book_path;
 use loads::marks::Mark;
 use placers::by_count::ByCount;
@@ -11,7 +14,7 @@ use placers::placer::Placer;
 use port::plan;
 use port::ports::Port;
 use racks::cells::CellSlots;
-use racks::plan::{check_cells, check_rows};
+use racks::plan::{Numbers, check_cells, check_rows};
 use racks::rack::Rack;
 use racks::rows::RowSlots;
 use racks::store::Store;
@@ -19,33 +22,31 @@ use schedule::faults::PortFault;
 use std::process::Abort;
 use std::test::Fail;
 
-// What a path came to: 0 where it is booked, or the number of the refusal; and the leg that refused.
-fn came<B: Bank>(bank: &mut B, stream: u8, quota: u32, legs: &[Leg]) -> (u8, usize) {
-    match book_path(bank, stream, 100, quota, legs) {
-        Ok(()) => (0, 0),
-        Err(fault) => match fault {
-            LineFault::NoPath => (fault.number(), 99),
-            LineFault::AtLeg(leg) => (fault.number(), leg.place),
-        },
-    }
+// What a path for frames of 100 octets answers.
+fn try_path<B: Bank>(bank: &mut B, stream: u8, quota: u32, legs: &[Leg]) -> Result<(), LineFault> {
+    let request = Request {
+        stream,
+        longest: 100,
+        quota,
+    };
+    book_path(bank, request, legs)
 }
 
-// A port with one class of so many ticks and two bins, or the refusal of its set.
+fn refused_at(place: usize, fault: BookFault) -> Result<(), LineFault> {
+    Err(AtLeg(LegFault { place, fault }))
+}
+
+// A port with one class of 4,000 ticks and two bins, or the refusal of its set.
 fn port_of<R: Rack + Drop, P: Placer + Drop>(
     number: u64,
-    cycle: u32,
     rack: R,
     placer: P,
 ) -> Result<Port<R, P>, PortFault> {
-    let plan = plan::check(
-        number,
-        0,
-        0,
-        &[Class { cycle, bins: 2 }],
-        &[0],
-        &rack,
-        &placer,
-    )?;
+    let classes = [Class {
+        cycle: 4_000,
+        bins: 2,
+    }];
+    let plan = plan::check(&setup(number, &classes), &rack, &placer)?;
     Ok(Port::make(plan, rack, placer))
 }
 
@@ -57,18 +58,8 @@ fn leg(number: u8) -> Leg {
     }
 }
 
-// Three legs, the quota, and what comes of it where module 1 has 458 octets left, and of the others each has 2,458.
-const PATHS: [([u8; 3], u32, u8, usize); 7] = [
-    ([1, 0, 2], 459, 8, 0),
-    ([0, 1, 2], 459, 8, 1),
-    ([2, 0, 1], 459, 8, 2),
-    ([0, 1, 0], 120, 18, 99),
-    ([0, 1, 3], 120, 18, 99),
-    ([2, 1, 0], 119, 6, 0),
-    ([2, 1, 0], 458, 0, 0),
-];
-
-// Goes through the paths. After a refused one the stream's rows are free in all modules, after a booked one live.
+// Goes through paths: three legs, the quota, and the answer where module 1 has 458 octets left, and of the others each has 2,458.
+// After a refused one the stream's rows are free in all modules, after a booked one live.
 fn goes<R: Rack + Drop, P: Placer + Drop, S: Rack + Drop, Q: Placer + Drop>(
     rt: &impl Abort,
     first: Port<R, P>,
@@ -76,47 +67,75 @@ fn goes<R: Rack + Drop, P: Placer + Drop, S: Rack + Drop, Q: Placer + Drop>(
     third: Port<R, P>,
 ) -> Result<(), Fail> {
     let mut bank = (first, (second, (third, ())));
-    assert_eq!(rt; came(&mut bank, 9, 2_000, &[leg(1)]), (0, 0));
-    for (numbers, quota, number, place) in PATHS {
-        let legs = [leg(numbers[0]), leg(numbers[1]), leg(numbers[2])];
-        assert_eq!(rt; came(&mut bank, 5, quota, &legs), (number, place));
-        let booking = Booking {
-            input: 0,
-            class: 0,
-            longest: 100,
-            quota,
-        };
-        let row = if number == 0 {
-            Row::Live(booking)
-        } else {
-            Row::Free
+    assert_eq!(rt; try_path(&mut bank, 9, 2_000, &[leg(1)]), Ok(()));
+    let over = BookFault::Over { class: 0, ticks: 1 };
+    let paths = [
+        ([1, 0, 2], 459, refused_at(0, over)),
+        ([0, 1, 2], 459, refused_at(1, over)),
+        ([2, 0, 1], 459, refused_at(2, over)),
+        ([0, 1, 0], 120, Err(NoPath)),
+        ([0, 1, 3], 120, Err(NoPath)),
+        ([2, 1, 0], 119, refused_at(0, BookFault::BadLengths)),
+        ([2, 1, 0], 458, Ok(())),
+    ];
+    for (numbers, quota, answer) in paths {
+        let legs = numbers.map(leg);
+        assert_eq!(rt; try_path(&mut bank, 5, quota, &legs), answer);
+        let row = match answer {
+            Ok(()) => Row::Live(booking(0, quota)),
+            Err(_) => Row::Free,
         };
         assert_eq!(rt; (bank.0.row(5), bank.1.0.row(5), bank.1.1.0.row(5)),
             (Ok(row), Ok(row), Ok(row)));
     }
     // No leg, seventeen, a class that is not there, and a number that no module has.
+    let absent = Leg { class: 1, ..leg(0) };
     assert_eq!(rt;
         (
-            came(&mut bank, 6, 120, &[]),
-            came(&mut bank, 6, 120, &[leg(0); 17]),
-            came(
-                &mut bank,
-                6,
-                120,
-                &[
-                    leg(2),
-                    Leg {
-                        number: 0,
-                        input: 0,
-                        class: 1,
-                    },
-                ],
-            ),
+            try_path(&mut bank, 6, 120, &[]),
+            try_path(&mut bank, 6, 120, &[leg(0); 17]),
+            try_path(&mut bank, 6, 120, &[leg(2), absent]),
             bank.has(3),
         ),
-        ((18, 99), (18, 99), (5, 1), false)
+        (
+            Err(NoPath),
+            Err(NoPath),
+            refused_at(1, BookFault::NotThere),
+            false
+        )
     );
     Ok(())
+}
+
+#[test]
+fn refusals_have_their_numbers(rt: HostRuntime) {
+    let over = BookFault::Over { class: 0, ticks: 1 };
+    for (fault, number) in [
+        (NoPath, 18),
+        (
+            AtLeg(LegFault {
+                place: 1,
+                fault: BookFault::NotThere,
+            }),
+            5,
+        ),
+        (
+            AtLeg(LegFault {
+                place: 0,
+                fault: BookFault::BadLengths,
+            }),
+            6,
+        ),
+        (
+            AtLeg(LegFault {
+                place: 2,
+                fault: over,
+            }),
+            8,
+        ),
+    ] {
+        assert_eq!(rt; fault.number(), number);
+    }
 }
 
 // Three ports over these racks, of two kinds and with two placers, in one line.
@@ -126,28 +145,27 @@ fn put_together<R: Rack + Drop, S: Rack + Drop>(
     second: S,
     third: R,
 ) -> Result<(), Fail> {
-    let first = port_of(0, 4_000, first, ByTime::new());
-    let second = port_of(1, 4_000, second, ByCount::new());
-    let third = port_of(2, 4_000, third, ByTime::new());
-    match (first, second, third) {
-        (Ok(first), Ok(second), Ok(third)) => goes(rt, first, second, third),
-        _ => {
-            assert_eq!(rt; 0, 1);
-            Ok(())
-        },
-    }
+    let first = port_of(0, first, ByTime::new())?;
+    let second = port_of(1, second, ByCount::new())?;
+    let third = port_of(2, third, ByTime::new())?;
+    goes(rt, first, second, third)
 }
 
 #[test]
 fn paths_over_mixed_modules(rt: HostRuntime) -> Result<(), Fail> {
+    let numbers = Numbers {
+        bins: 2,
+        depth: 47,
+        total: 94,
+    };
     let mut places = [Mark::new(0, 64, 0); 94];
-    let mut rows = RowSlots::make(check_rows(2, 47, 94, &places)?);
+    let mut rows = RowSlots::make(check_rows(numbers, &places)?);
     let mut next = [0; 94];
     let mut cell_places = [Mark::new(0, 64, 0); 94];
-    let plan = check_cells(2, 47, 94, &cell_places, &next)?;
+    let plan = check_cells(numbers, &cell_places, &next)?;
     let mut cells = CellSlots::make(plan, &mut next);
     let mut more_places = [Mark::new(0, 64, 0); 94];
-    let mut more_rows = RowSlots::make(check_rows(2, 47, 94, &more_places)?);
+    let mut more_rows = RowSlots::make(check_rows(numbers, &more_places)?);
     put_together(
         &rt,
         Store::over(&mut places, &mut rows),

@@ -1,7 +1,8 @@
-use Rattle.std.proofs.Common.{ap, ◌∙◌}
-use Rattle.ecqf_port.specs.Script.{frame_in, ended}
+use Rattle.std.proofs.Common.{◌∙◌, ap}
+use Rattle.scripting.specs.Readings.{ended}
+use Rattle.ecqf_port.specs.Script.{frame_in}
 use Rattle.ecqf_port.specs.declared.script.Command.TheVariants.{Frame}
-use Rattle.ecqf_port.proofs.Reading.{stopped, went_on}
+use Rattle.scripting.proofs.Reading.{stopped, went_on}
 use Rattle.ecqf_port.proofs.script.read_frame.Goals as goal
 
 pub returns-in_err-input : goal.returns-in_err-input
@@ -42,8 +43,7 @@ returns-in_err-buffer c =
 pub returns : goal.returns
 unfolding frame_in
 returns c =
-    c.end.ensures
-    ∙ ap (λ m. ended c.u32.new.self.rest.now (Frame c.in_ok-input.input c.in_ok-stamp.stamp m)) c.new-mark.ensures
+    c.end.ensures ∙ ap (λ m. ended c.read-5.new.self.rest.now (Frame c.in_ok-input.input c.in_ok-stamp.stamp m)) c.new-mark.ensures
     ∙ went_on _ _ _ _ _ c.in_ok-buffer.ensures.value c.in_ok-buffer.ensures.rest
     ∙ went_on _ _ _ _ _ c.in_ok-length.ensures.value c.in_ok-length.ensures.rest
     ∙ went_on _ _ _ _ _ c.in_ok-stream.ensures.value c.in_ok-stream.ensures.rest

@@ -1,6 +1,6 @@
 use Rattle.std.proofs.Common.{◌∙◌}
 use Rattle.ecqf_port.specs.Script.{rack_in}
-use Rattle.ecqf_port.proofs.Reading.{stopped, went_on}
+use Rattle.scripting.proofs.Reading.{stopped, went_on}
 use Rattle.ecqf_port.proofs.script.read_rack.Goals as goal
 
 pub returns-in_err-kind : goal.returns-in_err-kind

@@ -4,9 +4,10 @@ use Rattle.schedule.proofs.Lawful.{laws}
 use Rattle.schedule.proofs.Apart.{apart}
 use Rattle.schedule.proofs.rooms.room_needed.Goals as goal
 
-pub returns : goal.returns
-returns g c = record {
-  room = c.room_of.ensures;
-  laws = laws _ g.P.Placer.rules g.P.Placer.duties (numbers_of c.args.settings.now) (settings-legal c.args.settings.now);
-  apart = apart _ g.P.Placer.rules (numbers_of c.args.settings.now);
-}
+pub returns-clause-laws : goal.returns-clause-laws
+returns-clause-laws g c =
+    let s = c.args.settings.now in
+    laws _ g.P.Placer.rules g.P.Placer.duties (numbers_of s) (settings-legal s)
+
+pub returns-clause-apart : goal.returns-clause-apart
+returns-clause-apart g c = apart _ g.P.Placer.rules (numbers_of c.args.settings.now)

@@ -6,7 +6,7 @@ use Rattle.line.proofs.banks.Tuple2Bank.confirm.Goals as goal
 pub returns-then-number-eq0 : goal.returns-then-number-eq0
 returns-then-number-eq0 g c = record {
   answer = answer-first g.M.Module.meaning g.B.Bank.meanings c.args.number c.if-number-eq0.true _ _ (λ (k : BookState). (confirm_of k c.args.note).0) _ c.confirm.ensures.answer;
-  next = changed-first g.M.Module.meaning g.B.Bank.meanings c.args.number c.if-number-eq0.true _ _ (λ L. Confirm c.args.note) _ _ _ _ c.confirm.ensures.next c.confirm.ensures.onward;
+  next = changed-first g.M.Module.meaning g.B.Bank.meanings c.args.number c.if-number-eq0.true _ _ (λ L. Confirm c.args.note) _ _ _ _ c.confirm.ensures.next;
 }
 
 pub returns-else-number-eq0 : goal.returns-else-number-eq0

@@ -6,7 +6,7 @@ use Rattle.line.proofs.banks.Tuple2Bank.drop_hold.Goals as goal
 pub returns-then-number-eq0 : goal.returns-then-number-eq0
 returns-then-number-eq0 g c = record {
   answer = answer-first g.M.Module.meaning g.B.Bank.meanings c.args.number c.if-number-eq0.true _ _ (λ (k : BookState). (drop_of k c.args.note).0) _ c.drop_hold.ensures.answer;
-  next = changed-first g.M.Module.meaning g.B.Bank.meanings c.args.number c.if-number-eq0.true _ _ (λ L. DropHold c.args.note) _ _ _ _ c.drop_hold.ensures.next c.drop_hold.ensures.onward;
+  next = changed-first g.M.Module.meaning g.B.Bank.meanings c.args.number c.if-number-eq0.true _ _ (λ L. DropHold c.args.note) _ _ _ _ c.drop_hold.ensures.next;
 }
 
 pub returns-else-number-eq0 : goal.returns-else-number-eq0

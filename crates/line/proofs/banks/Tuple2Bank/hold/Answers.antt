@@ -7,7 +7,7 @@ use Rattle.line.proofs.banks.Tuple2Bank.hold.Goals as goal
 pub returns-then-number-eq0 : goal.returns-then-number-eq0
 returns-then-number-eq0 g c = record {
   answer = answer-first g.M.Module.meaning g.B.Bank.meanings c.args.number c.if-number-eq0.true _ _ (λ (k : BookState). (hold_of k c.args.stream c.args.booking).0) _ c.hold.ensures.answer;
-  next = changed-first g.M.Module.meaning g.B.Bank.meanings c.args.number c.if-number-eq0.true _ _ (λ L. Hold c.args.stream c.args.booking) _ _ _ _ c.hold.ensures.next c.hold.ensures.onward;
+  next = changed-first g.M.Module.meaning g.B.Bank.meanings c.args.number c.if-number-eq0.true _ _ (λ L. Hold c.args.stream c.args.booking) _ _ _ _ c.hold.ensures.next;
   spendable = subst (λ (k : BookState). IfOk c.hold.result (λ note. held_by k note ≡ true))
       (sym (book-first g.M.Module.meaning g.B.Bank.meanings c.args.number c.if-number-eq0.true (g.M.Module.state c.hold.new.self) _)) c.hold.ensures.spendable;
 }

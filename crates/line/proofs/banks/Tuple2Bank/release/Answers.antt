@@ -6,7 +6,7 @@ use Rattle.line.proofs.banks.Tuple2Bank.release.Goals as goal
 pub returns-then-number-eq0 : goal.returns-then-number-eq0
 returns-then-number-eq0 g c = record {
   answer = answer-first g.M.Module.meaning g.B.Bank.meanings c.args.number c.if-number-eq0.true _ _ (λ (k : BookState). (release_of k c.args.stream).0) _ c.release.ensures.answer;
-  next = changed-first g.M.Module.meaning g.B.Bank.meanings c.args.number c.if-number-eq0.true _ _ (λ L. Release c.args.stream) _ _ _ _ c.release.ensures.next c.release.ensures.onward;
+  next = changed-first g.M.Module.meaning g.B.Bank.meanings c.args.number c.if-number-eq0.true _ _ (λ L. Release c.args.stream) _ _ _ _ c.release.ensures.next;
 }
 
 pub returns-else-number-eq0 : goal.returns-else-number-eq0

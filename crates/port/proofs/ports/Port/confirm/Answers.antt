@@ -1,6 +1,8 @@
 use Rattle.std.proofs.Common.{refl, ap, ◌∙◌}
 use Rattle.std.proofs.lemmas.Result.{err_from_is_err_and}
 use Rattle.book.specs.Books.{state_of}
+use Rattle.book.specs.Told.{SetNumbers}
+use Rattle.placers.specs.Terms.{terms_of}
 use Rattle.port.specs.Rowed.{held_booking}
 use Rattle.port.proofs.Confirms.{confirm-unheld, confirm-refused, confirm-taken}
 use Rattle.port.proofs.ports.Port.confirm.Goals as goal
@@ -24,9 +26,11 @@ returns-in_err-confirm g c =
 pub returns : goal.returns
 returns g c =
     let e = c.in_ok-confirm.ensures in
+    let k = c.in-Some.booking in
+    let terms = c.terms-terms.ensures ∙ ap (λ (s : SetNumbers). terms_of s k.class k.input) c.settings.ensures in
     record {
       answer = e.answer;
       next = e.next;
-      follows = confirm-taken _ _ _ c.args.note _ _ e.answer e.next _ _ c.in-Some.booking c.stream-stream.result c.terms_of-terms.result
-          c.stream-stream.ensures c.terms_of-terms.ensures refl c.in-Some.ensures c.renew.ensures c.note.ensures;
+      follows = confirm-taken _ _ _ c.args.note _ _ e.answer e.next _ _ k c.stream-stream.result c.terms-terms.result
+          c.stream-stream.ensures terms refl c.in-Some.ensures c.renew.ensures (c.write.ensures 0);
     }

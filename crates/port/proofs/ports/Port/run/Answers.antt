@@ -14,7 +14,7 @@ returns g c =
     let e = c.play-sent.ensures in
     record {
       follows = run-goes _ _ _ _ _ (sym c.if-is_out_of_time.ensures) (sym c.if-is_short.ensures) _ _ _ _ _ _
-          c.clock.result c.clock.ensures e.played c.advance.ensures.next e.count e.depth e.total;
+          c.clock.result _ c.clock.ensures c.settings.ensures e.played c.advance.ensures.next e.room.count e.room.depth e.room.total;
       book = c.advance.ensures.next;
       alone = (e.written, e.later);
     }

@@ -1,81 +1,57 @@
-use Rattle.std.proofs.Common.{◌≡◌, ℕ, suc, ◌+◌, ◌-◌, ◌<◌, ◌≤◌, length, get_or, Some, Ok, sym, refl, ap, ◌∙◌, mod-lt, arith, rules}
-use Rattle.std.proofs.lemmas.Bool.{leb-true, leb-false}
-use Rattle.racks.specs.Rings.{row_of, rows_lay}
+use Rattle.std.proofs.Common.{◌≡◌, ℕ, suc, ◌+◌, ◌-◌, length, get_or, sym, refl, ap, arith, rules}
+use Rattle.std.proofs.lemmas.Result.{err_from_is_err_and}
+use Rattle.racks.specs.Rings.{starts_of, counts_of, row_of, rows_lay}
 use Rattle.racks.proofs.Rules.{take-missing}
 use Rattle.racks.proofs.Tables.{length-tabled}
-use Rattle.racks.proofs.Ringed.{rows-freed, held-freed, row-none, held-row, keep-le, keep-lt}
+use Rattle.racks.proofs.Ringed.{row-none}
+use Rattle.racks.proofs.RowCalls.{some-held, freed-kept, freed-is}
 use Rattle.racks.proofs.rows.RowSlotsSlots.free.Goals as goal
 
-pub returns-then-lacks : goal.returns-then-lacks
-returns-then-lacks c =
+pub returns-in_err-check_bin : goal.returns-in_err-check_bin
+returns-in_err-check_bin c =
     let s = c.args.self.now in
-    let b = c.args.bin in
-    let n = s.sizes.bins in
-    let d = s.sizes.depth in
-    let hm : length (rows_lay n d s.starts s.counts) ≤ b = omega (arith, length-tabled n (row_of d s.starts s.counts), leb-true n b (sym c.if-lacks.ensures)) in
-    let e = take-missing (rows_lay n d s.starts s.counts) b hm in
+    let n = s.plan.numbers in
+    let st = starts_of s.rings in
+    let cn = counts_of s.rings in
+    let p = err_from_is_err_and c.from_residual.result c.from_residual.ensures.1 in
+    let h = c.in_err-check_bin.ensures.missing in
+    let e = take-missing (rows_lay n.bins n.depth st cn) c.args.bin (omega (arith, length-tabled n.bins (row_of n.depth st cn), h.1)) in
+    rw (p.1, p.2, h.0) (record { answer = sym (ap (λ w. w.0) e); next = sym (ap (λ w. w.1) e); depth = refl; total = refl; room = refl })
+
+pub returns-then-ring-eq0 : goal.returns-then-ring-eq0
+returns-then-ring-eq0 c =
+    let s = c.args.self.now in
+    let n = s.plan.numbers in
+    let none : get_or (counts_of s.rings) c.args.bin 0 ≡ 0 = omega (arith, c.ring-ring.ensures.count, c.if-ring-eq0.true) in
+    let e = row-none n.bins n.depth (starts_of s.rings) (counts_of s.rings) c.args.bin c.in_ok-check_bin.ensures.there none in
     record { answer = sym (ap (λ w. w.0) e); next = sym (ap (λ w. w.1) e); depth = refl; total = refl; room = refl }
 
-pub returns-then-used-eq0 : goal.returns-then-used-eq0
-returns-then-used-eq0 c =
+pub overflow_sub-self : goal.overflow_sub-self
+overflow_sub-self c =
     let s = c.args.self.now in
-    let b = c.args.bin in
-    let n = s.sizes.bins in
-    let d = s.sizes.depth in
-    let hb : b < n = leb-false n b (sym c.if-lacks.ensures) in
-    let none : get_or s.counts b 0 ≡ 0 = omega (arith, c.used.ensures, c.if-used-eq0.true) in
-    let e = row-none n d s.starts s.counts b hb none in
-    record { answer = sym (ap (λ w. w.0) e); next = sym (ap (λ w. w.1) e); depth = refl; total = refl; room = refl }
-
-pub overflow_sub-self-2 : goal.overflow_sub-self-2
-overflow_sub-self-2 c =
-    let s = c.args.self.now in
-    let b = c.args.bin in
-    let n = s.sizes.bins in
-    let d = s.sizes.depth in
-    let hb : b < n = leb-false n b (sym c.if-lacks.ensures) in
-    omega (arith, c.used.ensures, c.if-used-eq0.false, s.sum, held-row n d s.starts s.counts b hb)
+    let long : length s.rings ≡ 32 = search rules in
+    let r = c.ring-ring in
+    let g = c.shrink in
+    let some : r.result.count ≡ suc (r.result.count - 1) = omega (arith, c.if-ring-eq0.false) in
+    some-held s c.args.bin long c.in_ok-check_bin.ensures.there r.result r.ensures.start r.ensures.count (r.result.count - 1) some g.new.self g.ensures.start g.ensures.below g.ensures.count
 
 pub invariant_of-self : goal.invariant_of-self
 invariant_of-self c =
     let s = c.args.self.now in
-    let b = c.args.bin in
-    let n = s.sizes.bins in
-    let d = s.sizes.depth in
-    let hb : b < n = leb-false n b (sym c.if-lacks.ensures) in
-    let hu : b < length s.counts = search rules in
-    let hs : b < length s.starts = search rules in
-    let m = get_or s.counts b 0 - 1 in
-    let some : get_or s.counts b 0 ≡ suc (get_or s.counts b 0 - 1) = omega (arith, c.used.ensures, c.if-used-eq0.false) in
-    let on = c.next_start.ensures in
-    let next = c.next_start.result in
-    let low : next < d = omega (arith, on, mod-lt (get_or s.starts b 0 + 1) s.some_depth) in record {
-      few_bins = s.few_bins;
-      some_depth = s.some_depth;
-      low_depth = s.low_depth;
-      whole_room = s.whole_room;
-      starts_within = keep-lt n d s.starts b next hs s.starts_within low;
-      counts_within = keep-le n d s.counts b m hu s.counts_within (omega (arith, s.counts_within b hb));
-      sum = omega (arith, s.sum, held-freed n d s.starts s.counts b m next hb hu hs some on);
-    }
+    let long : length s.rings ≡ 32 = search rules in
+    let r = c.ring-ring in
+    let g = c.shrink in
+    let some : r.result.count ≡ suc (r.result.count - 1) = omega (arith, c.if-ring-eq0.false) in
+    let k = freed-kept s c.args.bin long c.in_ok-check_bin.ensures.there r.result r.ensures.start r.ensures.count (r.result.count - 1) some g.new.self g.ensures.start g.ensures.below g.ensures.count in
+    record { starts_within = k.starts_within; counts_within = k.counts_within; sum = k.sum }
 
 pub returns : goal.returns
 returns c =
     let s = c.args.self.now in
-    let b = c.args.bin in
-    let n = s.sizes.bins in
-    let d = s.sizes.depth in
-    let hb : b < n = leb-false n b (sym c.if-lacks.ensures) in
-    let hu : b < length s.counts = search rules in
-    let hs : b < length s.starts = search rules in
-    let m = get_or s.counts b 0 - 1 in
-    let some : get_or s.counts b 0 ≡ suc (get_or s.counts b 0 - 1) = omega (arith, c.used.ensures, c.if-used-eq0.false) in
-    let on = c.next_start.ensures in
-    let e = rows-freed n d s.starts s.counts b m c.next_start.result hb hu hs some on in
-    record {
-      answer = ap (λ (p : ℕ). Ok (Some p)) c.oldest-place.ensures ∙ sym (ap (λ w. w.0) e);
-      next = sym (ap (λ w. w.1) e);
-      depth = refl;
-      total = refl;
-      room = refl;
-    }
+    let long : length s.rings ≡ 32 = search rules in
+    let r = c.ring-ring in
+    let g = c.shrink in
+    let some : r.result.count ≡ suc (r.result.count - 1) = omega (arith, c.if-ring-eq0.false) in
+    let e = freed-is s c.args.bin long c.in_ok-check_bin.ensures.there r.result r.ensures.start r.ensures.count (r.result.count - 1) some g.new.self g.ensures.start g.ensures.below g.ensures.count
+    _ (ap (λ (z : ℕ). z + r.result.start) c.base.ensures.value) in
+    record { answer = sym (ap (λ w. w.0) e); next = sym (ap (λ w. w.1) e); depth = refl; total = refl; room = refl }

@@ -1,19 +1,15 @@
-use Rattle.std.proofs.Common.{ℕ, sym, refl, subst}
-use Rattle.racks.specs.Places.{Within}
-use Rattle.racks.specs.Rings.{row_of, rows_lay}
+use Rattle.std.proofs.Common.{sym}
+use Rattle.racks.specs.Rings.{starts_of, counts_of, row_of}
 use Rattle.racks.proofs.Tables.{length-tabled}
 use Rattle.racks.proofs.Ringed.{rows-within}
 use Rattle.racks.proofs.rows.RowSlotsSlots.sizes.Goals as goal
 
-pub returns : goal.returns
-returns c =
+pub returns-clause-bins : goal.returns-clause-bins
+returns-clause-bins c =
     let s = c.args.self.now in
-    let n = s.sizes.bins in
-    let d = s.sizes.depth in
-    record {
-      bins = sym (length-tabled n (row_of d s.starts s.counts));
-      depth = refl;
-      total = refl;
-      room = refl;
-      within = subst (λ (r : ℕ). Within r (rows_lay n d s.starts s.counts)) (sym s.whole_room) (rows-within n d s.starts s.counts s.starts_within);
-    }
+    sym (length-tabled s.plan.numbers.bins (row_of s.plan.numbers.depth (starts_of s.rings) (counts_of s.rings)))
+
+pub returns-clause-within : goal.returns-clause-within
+returns-clause-within c =
+    let s = c.args.self.now in
+    rows-within s.plan.numbers.bins s.plan.numbers.depth (starts_of s.rings) (counts_of s.rings) s.starts_within

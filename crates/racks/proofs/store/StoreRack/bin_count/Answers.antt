@@ -9,4 +9,4 @@ returns g c =
     let ps = s.places.now in
     let lay = q.lay s.slots.now in
     let room = q.room s.slots.now in
-    c.lists.ensures ∙ sym (length-bins room ps lay)
+    c.sizes.ensures.bins ∙ sym (length-bins room ps lay)

@@ -22,4 +22,4 @@ returns-else-is_short g c =
     let room = q.room s.slots.now in
     let long : room ≤ length ps = ltb-false (length ps) room (sym c.if-is_short.ensures.answer) in
     let within = c.if-is_short.ensures.within in
-    c.is_unused.ensures ∙ ap (λ (n : ℕ). eqb n 0) (sym (same-held ps lay room 0 long within))
+    ap (λ (n : ℕ). eqb n 0) (c.held.ensures ∙ sym (same-held ps lay room 0 long within))

@@ -1,4 +1,4 @@
-use Rattle.std.proofs.Common.{◌≡◌, ◌<◌, ◌≤◌, List, length, set, Ok, Err, sym, refl, ap, ◌∙◌, arith}
+use Rattle.std.proofs.Common.{◌≡◌, ◌<◌, ◌≤◌, List, length, set, Ok, Err, sym, refl, ap, ◌∙◌}
 use Rattle.std.proofs.lemmas.List.{length-set}
 use Rattle.std.proofs.lemmas.Result.{err_from_is_err_and}
 use Rattle.std.proofs.lemmas.Bool.{ltb-true, ltb-false}
@@ -67,17 +67,6 @@ returns-in_err-place g c =
       depth = h.depth;
       total = total_kept ps ps room (q.room t) (q.total s.slots.now) (q.total t) h.room h.total refl;
     })
-
-pub write-requires : goal.write-requires
-write-requires g c =
-    let s = c.args.self.now in
-    let q = g.S.Slots in
-    let ps = s.places.now in
-    let lay = q.lay s.slots.now in
-    let room = q.room s.slots.now in
-    let long : room ≤ length ps = ltb-false (length ps) room (sym c.if-is_short.ensures.answer) in
-    let within = c.if-is_short.ensures.within in
-    omega (arith, c.in_ok-place.ensures.given.2)
 
 pub returns : goal.returns
 returns g c =

@@ -1,8 +1,8 @@
-use Rattle.std.proofs.Common.{◌≡◌, ◌<◌, ◌≤◌, List, length, Some, Ok, Err, sym, refl, ap, ◌∙◌}
+use Rattle.std.proofs.Common.{◌<◌, ◌≤◌, length, get_or, Ok, Err, sym, refl, ap, ◌∙◌, arith, rules}
+use Rattle.std.proofs.lemmas.List.{get_or_default}
 use Rattle.std.proofs.lemmas.Result.{err_from_is_err_and}
 use Rattle.std.proofs.lemmas.Bool.{ltb-true, ltb-false}
 use Rattle.racks.specs.declared.faults.RackFault.{RackFault}
-use Rattle.racks.specs.Places.{bins_over}
 use Rattle.racks.proofs.Rules.{take_count}
 use Rattle.racks.proofs.Picks.{at_read, count_none, count-there, take_none, take_short, take-refused, take-nothing, take-oldest, oldest-within, total_kept}
 use Rattle.racks.proofs.store.StoreRack.take.Goals as goal
@@ -45,8 +45,8 @@ returns-then-is_short g c =
       total = refl;
     }
 
-pub returns-in_err-free : goal.returns-in_err-free
-returns-in_err-free g c =
+pub returns-in_err-place : goal.returns-in_err-place
+returns-in_err-place g c =
     let s = c.args.self.now in
     let q = g.S.Slots in
     let ps = s.places.now in
@@ -55,9 +55,9 @@ returns-in_err-free g c =
     let b = c.args.bin in
     let long : room ≤ length ps = ltb-false (length ps) room (sym c.if-is_short.ensures.answer) in
     let within = c.if-is_short.ensures.within in
-    let p = err_from_is_err_and c.from_residual-in_err-free.result c.from_residual-in_err-free.ensures.1 in
+    let p = err_from_is_err_and c.from_residual-in_err-place.result c.from_residual-in_err-place.ensures.1 in
     let t = c.free.new.self in
-    let h = c.in_err-free.ensures in
+    let h = c.in_err-place.ensures in
     let e = take-refused ps lay room b long within (q.lay t) (q.room t) h.room h.next _ h.answer in
     rw (p.1, p.2) (record {
       answer = sym (ap (λ w. w.0) e);
@@ -67,21 +67,8 @@ returns-in_err-free g c =
       total = total_kept ps ps room (q.room t) (q.total s.slots.now) (q.total t) h.room h.total refl;
     })
 
-pub read-requires : goal.read-requires
-read-requires g c =
-    let s = c.args.self.now in
-    let q = g.S.Slots in
-    let ps = s.places.now in
-    let lay = q.lay s.slots.now in
-    let room = q.room s.slots.now in
-    let b = c.args.bin in
-    let long : room ≤ length ps = ltb-false (length ps) room (sym c.if-is_short.ensures.answer) in
-    let within = c.if-is_short.ensures.within in
-    let h = c.in_ok-free.ensures in
-    oldest-within ps lay room b long within c.in-Some.place (ap Ok (sym c.in-Some.is) ∙ h.answer)
-
-pub returns-in-None : goal.returns-in-None
-returns-in-None g c =
+pub returns-in_default : goal.returns-in_default
+returns-in_default g c =
     let s = c.args.self.now in
     let q = g.S.Slots in
     let ps = s.places.now in
@@ -91,8 +78,8 @@ returns-in-None g c =
     let long : room ≤ length ps = ltb-false (length ps) room (sym c.if-is_short.ensures.answer) in
     let within = c.if-is_short.ensures.within in
     let t = c.free.new.self in
-    let h = c.in_ok-free.ensures in
-    let e = take-nothing ps lay room b long within (q.lay t) (q.room t) h.room h.next (ap Ok (sym c.in-None.is) ∙ h.answer) in
+    let h = c.in_ok-place.ensures in
+    let e = take-nothing ps lay room b long within (q.lay t) (q.room t) h.room h.next (ap Ok (sym c.in_default.is) ∙ h.answer) in
     record {
       answer = sym (ap (λ w. w.0) e);
       next = sym (ap (λ w. w.1) e);
@@ -101,8 +88,35 @@ returns-in-None g c =
       total = total_kept ps ps room (q.room t) (q.total s.slots.now) (q.total t) h.room h.total refl;
     }
 
-pub returns-in-Some : goal.returns-in-Some
-returns-in-Some g c =
+pub bounds-self-place : goal.bounds-self-place
+bounds-self-place g c =
+    let s = c.args.self.now in
+    let q = g.S.Slots in
+    let ps = s.places.now in
+    let lay = q.lay s.slots.now in
+    let room = q.room s.slots.now in
+    let b = c.args.bin in
+    let long : room ≤ length ps = ltb-false (length ps) room (sym c.if-is_short.ensures.answer) in
+    let within = c.if-is_short.ensures.within in
+    let h = c.in_ok-place.ensures in
+    oldest-within ps lay room b long within c.in-Some.place (ap Ok (sym c.in-Some.is) ∙ h.answer)
+
+pub offset_bounds-self-place : goal.offset_bounds-self-place
+offset_bounds-self-place g c =
+    let s = c.args.self.now in
+    let q = g.S.Slots in
+    let ps = s.places.now in
+    let lay = q.lay s.slots.now in
+    let room = q.room s.slots.now in
+    let b = c.args.bin in
+    let long : room ≤ length ps = ltb-false (length ps) room (sym c.if-is_short.ensures.answer) in
+    let within = c.if-is_short.ensures.within in
+    let h = c.in_ok-place.ensures in
+    let inside = oldest-within ps lay room b long within c.in-Some.place (ap Ok (sym c.in-Some.is) ∙ h.answer) in
+    search (arith, rules, inside, c.well_formed)
+
+pub returns : goal.returns
+returns g c =
     let s = c.args.self.now in
     let q = g.S.Slots in
     let ps = s.places.now in
@@ -112,17 +126,16 @@ returns-in-Some g c =
     let long : room ≤ length ps = ltb-false (length ps) room (sym c.if-is_short.ensures.answer) in
     let within = c.if-is_short.ensures.within in
     let t = c.free.new.self in
-    let h = c.in_ok-free.ensures in
+    let h = c.in_ok-place.ensures in
     let j = c.in-Some.place in
     let some = ap Ok (sym c.in-Some.is) ∙ h.answer in
-    let kept : c.read.new.places ≡ ps = c.read.ensures.kept in
-    let load = at_read ps j c.read.result (oldest-within ps lay room b long within j some) c.read.ensures.got in
-    let e = take-oldest ps lay room b long within (q.lay t) (q.room t) h.room h.next j c.read.result some load
-    ∙ ap (λ (z : List _). (Ok (Some c.read.result), bins_over (q.room t) z (q.lay t))) (sym kept) in
+    let x = get_or ps j c.index-self-place.result in
+    let load = at_read ps j x (oldest-within ps lay room b long within j some) (get_or_default ps j c.index-self-place.result x (oldest-within ps lay room b long within j some)) in
+    let e = take-oldest ps lay room b long within (q.lay t) (q.room t) h.room h.next j x some load in
     record {
       answer = sym (ap (λ w. w.0) e);
       next = sym (ap (λ w. w.1) e);
       count = take_count _ _ b _ e;
       depth = h.depth;
-      total = total_kept ps c.read.new.places room (q.room t) (q.total s.slots.now) (q.total t) h.room h.total (ap length kept);
+      total = total_kept ps ps room (q.room t) (q.total s.slots.now) (q.total t) h.room h.total refl;
     }

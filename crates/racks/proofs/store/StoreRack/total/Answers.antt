@@ -22,4 +22,4 @@ returns g c =
     let room = q.room s.slots.now in
     let long : room ≤ length ps = ltb-false (length ps) room (sym c.if-is_short.ensures.answer) in
     let within = c.if-is_short.ensures.within in
-    c.most.ensures ∙ sym (total-long room ps (q.total s.slots.now) long)
+    c.sizes.ensures.total ∙ sym (total-long room ps (q.total s.slots.now) long)

@@ -1,5 +1,0 @@
-use Rattle.std.proofs.Common.{length}
-use Rattle.ecqf_port.proofs.printing.Page.echo.Given as goal
-
-abbrev pub decreases-loop-words : goal.decreases-loop-words
-decreases-loop-words l = length l.words.rest.now

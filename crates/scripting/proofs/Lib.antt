@@ -1,0 +1,5 @@
+pub mod Pairing
+pub mod Calling
+pub mod Dropping
+pub mod Carrying
+pub mod Reading
