@@ -18,6 +18,7 @@ pub struct Note {
     stream: u8,
 }
 
+// What it means is told by name, as `state_of` it: the laws over sequences of calls speak of such states with no book.
 #[derive(Drop)]
 pub struct Book {
     settings: Settings,

@@ -67,7 +67,8 @@ impl Row {
         }
     }
 
-    // Each call changes the row from the one state that it starts from, and leaves it in every other.
+    // Each call changes the row from the one state that it starts from, and leaves it in every other. Settings and clock are told
+    // apart, as the book has them: together they are no value of the rules.
     pub(crate) fn hold(&mut self, booking: Booking) -> Result<(), BookFault>
         ensures answer { result ≡ held_answer self.old }
         ensures next { self.new ≡ holding booking self.old }

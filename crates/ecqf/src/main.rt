@@ -31,7 +31,8 @@ fn run_line(
     Ok(())
 }
 
-// Runs a script to its end, and answers whether every line was understood.
+// Runs a script to its end, and answers whether every line was understood. The other program reads as this one, but what
+// carries its lines out changes on the way.
 fn run(
     heap: Global,
     input: Stdin,

@@ -3,7 +3,8 @@ use std::alloc::Global;
 use std::io;
 use std::io::{BufRead, BufReader, Stdin};
 
-// The line that was read last. After a reading that fails there are no more lines, and the end tells of it.
+// The line that was read last. After a reading that fails there are no more lines; the end tells of it, since what is in hand
+// has to be given back first.
 #[derive(Drop)]
 pub(crate) struct Lines {
     input: BufReader<Stdin>,

@@ -18,7 +18,8 @@ use racks::store::Store;
 use scripting::notes::Blank;
 use std::alloc::{AllocError, Global};
 
-// The places of a rack, for cells the numbers of next places, and the places of the notes.
+// The places of a rack, for cells the numbers of next places (none for rows), and the places of the notes. Places and next
+// are lent to the rack apart, so each is a list of its own.
 pub(crate) struct Memory {
     pub(crate) places: Vec<Mark>,
     pub(crate) next: Vec<u32>,
@@ -72,7 +73,8 @@ impl Memory {
         blank.end();
     }
 
-    // The plans of a rack over these places and of a port over it. They use up what was named.
+    // The plans of a rack over these places and of a port over it. They use up what was named. Each kind of slots is a type of
+    // its own, and so has an arm.
     fn plans<P: Placer>(
         &mut self,
         bench: &mut Bench,

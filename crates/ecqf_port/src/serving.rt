@@ -12,7 +12,7 @@ use crate::kinds::{PlacerKind, RackKind};
 use crate::lines::Lines;
 use crate::printing::Departures;
 use crate::ready;
-use crate::ready::{Memory, Plans, Ready};
+use crate::ready::{Memory, Ready};
 use crate::script::Command;
 use book::frames::SHORTEST_ON_WIRE;
 use book::ledger::Book;
@@ -47,13 +47,14 @@ pub(crate) struct Session {
     pub(crate) page: Page<BufWriter<Stdout>>,
 }
 
-// What is served.
+// What is served; that nothing more is, is told by an Option of it.
 pub(crate) enum Served {
     Alone,
     Port(Ready),
 }
 
-// The places of a list that is just long enough. None where the tick is refused, so that no memory is taken for it.
+// The places of a list that is just long enough. None where the tick is refused, so that no memory is taken for it: a port
+// would say so only once it has the list.
 fn list_places(clock: u64, until: u64, places: Option<u32>) -> u64
     ensures { result ≡ list_places clock until places }
 {
@@ -258,14 +259,14 @@ impl Session {
         None
     }
 
-    // Serves a port over the racks that are ready.
-    fn serve_over<P: Placer + Drop>(
-        &mut self,
-        kind: RackKind,
-        plans: Plans,
-        memory: Memory,
-        placer: P,
-    ) -> Option<Served> {
+    // Serves a port over the racks that are ready. Slots, and placers, differ in their types, so that each kind has its arm.
+    fn serve_over<P: Placer + Drop>(&mut self, ready: Ready, placer: P) -> Option<Served> {
+        let Ready {
+            kind,
+            placer: _,
+            plans,
+            memory,
+        } = ready;
         let Memory {
             mut places,
             mut next,
@@ -288,15 +289,9 @@ impl Session {
 
     // Serves a port that is ready. None where the script ends.
     fn serve_ready(&mut self, ready: Ready) -> Option<Served> {
-        let Ready {
-            kind,
-            placer,
-            plans,
-            memory,
-        } = ready;
-        match placer {
-            PlacerKind::ByTime => self.serve_over(kind, plans, memory, ByTime::new()),
-            PlacerKind::ByCount => self.serve_over(kind, plans, memory, ByCount::new()),
+        match ready.placer {
+            PlacerKind::ByTime => self.serve_over(ready, ByTime::new()),
+            PlacerKind::ByCount => self.serve_over(ready, ByCount::new()),
         }
     }
 

@@ -87,7 +87,8 @@ impl Bank for () {
     }
 }
 
-// A module ahead of a bank: number 0 is the module's, and a later one is the bank's, with one less.
+// A module ahead of a bank: number 0 is the module's, and a later one is the bank's, with one less. Each call has both ways:
+// one function for all would take the call as a closure over modules of two types, which no closure is.
 impl<M: Module, B: Bank> Bank for (M, B) {
     ghost size = { suc B.Bank.size };
 

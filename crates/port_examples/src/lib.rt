@@ -1,5 +1,5 @@
-// The worked examples with those of a module, as one table with one proof; and the tests of port and line, since tests in those
-// crates would prove them a second time.
+// The worked examples with those of a module, as one table with one proof; and the tests of port, line and what the programs share,
+// since tests in those crates would prove them a second time.
 #![tactic(auto)]
 
 ghost use Rattle.std.specs.Prelude.{◌≡◌, length};

@@ -1,3 +1,4 @@
-// The tests of port and line, as tables of cases. Each refusal stands beside the nearest call that is accepted.
+// The tests of port, line and what the programs share, as tables of cases. Each refusal stands beside the nearest call that is accepted.
 mod lines;
 mod ports;
+mod programs;

@@ -9,7 +9,7 @@ use racks::plan::{Numbers, check_cells, check_rows};
 use racks::rack::Rack;
 use racks::rows::RowSlots;
 use racks::store::Store;
-use std::time::Instant;
+use std::time::{Duration, Instant};
 use std::{env, io};
 
 const PAIRS: u32 = 10_000_000;
@@ -43,6 +43,7 @@ fn pairs<R: Rack<Item = Mark>>(rack: &mut R, count: u32) -> u64 {
     sum
 }
 
+// The two racks borrow what stands here, and in places of their own, so that each has a function.
 fn rows(count: u32) -> Result<u64, RackFault> {
     let mut places = [Mark::new(0, 64, 0); PLACES];
     let mut slots = RowSlots::make(check_rows(NUMBERS, &places)?);
@@ -59,16 +60,26 @@ fn cells(count: u32) -> Result<u64, RackFault> {
     Ok(pairs(&mut rack, count))
 }
 
+// What came of the pairs, and the time that they took.
+fn timed<F: FnOnce(u32) -> Result<u64, RackFault>>(
+    rt: &HostRuntime,
+    pairs: F,
+) -> io::Result<(Result<u64, RackFault>, Duration)>
+    requires { F.IsAlwaysCallable pairs }
+{
+    let start = Instant::now(rt)?;
+    let came = pairs(PAIRS);
+    Ok((came, start.elapsed(rt)?))
+}
+
 fn main(rt: HostRuntime) -> io::Result<()> {
-    let timed = env::args(&rt)?.count() > 1;
-    let start = Instant::now(&rt)?;
-    let in_rows = rows(PAIRS).unwrap_or(0);
-    let rows_took = start.elapsed(&rt)?;
-    let start = Instant::now(&rt)?;
-    let in_cells = cells(PAIRS).unwrap_or(0);
-    let cells_took = start.elapsed(&rt)?;
+    let with_times = env::args(&rt)?.count() > 1;
+    let (in_rows, rows_took) = timed(&rt, rows)?;
+    let (in_cells, cells_took) = timed(&rt, cells)?;
+    // What is taken sums to more than 0, which tells of a refusal.
+    let (in_rows, in_cells) = (in_rows.unwrap_or(0), in_cells.unwrap_or(0));
     println!(rt; "rows took {in_rows}, cells {in_cells}")?;
-    if timed {
+    if with_times {
         println!(rt; "{} {}", rows_took.as_nanos(), cells_took.as_nanos())?;
     }
     Ok(())

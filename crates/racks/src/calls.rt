@@ -14,7 +14,7 @@ pub enum RackCall<L> {
     Count(u32),
 }
 
-// What a call answers.
+// What a call answers: each kind of call its own result.
 #[derive(Clone, Copy)]
 pub enum RackAnswer<L> {
     WasPut(Result<(), RackFault>),

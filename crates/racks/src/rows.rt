@@ -8,7 +8,7 @@ use crate::plan::Plan;
 use crate::rings::Ring;
 use crate::slots::{Sizes, Slots};
 
-// The ring of each bin, and how many places are used in all.
+// The ring of each bin, and how many places are used in all. As many rings as bins can be: a rack takes no memory of its own.
 #[derive(Drop)]
 pub struct RowSlots {
     plan: Plan,

@@ -8,7 +8,8 @@ use book::setup::{Class, Settings};
 use loads::Load;
 use placers::placer::Placer;
 
-// The rack that a module needs: its bins, the most loads in one of them, and the most in all.
+// The rack that a module needs: its bins, the most loads in one of them, and the most in all. A rack's own numbers are not
+// known here: the rules rest on no rack.
 #[derive(Clone, Copy, PartialEq, Eq, Debug, Default)]
 pub struct Room {
     pub bins: u32,

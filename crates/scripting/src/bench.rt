@@ -7,7 +7,8 @@ use book::setup::Class;
 
 mod calls;
 
-// The desk of the book that is set, and what was named for the next set.
+// The desk of the book that is set, and what was named for the next set. What it means is told by name, `bench_of` it, since the
+// definitions of commands speak of such states with no bench.
 // Of classes and inputs one more is kept than a set accepts: with further ones it would answer the same.
 pub struct Bench {
     desk: Desk<Book>,

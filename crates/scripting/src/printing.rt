@@ -63,6 +63,7 @@ impl<W: Write + Drop> Page<W> {
     {
         let mut words = Words::of(line);
         self.bytes(words.next());
+        // Words are no iterator, whose laws would be longer than this.
         loop {
             let word = words.next();
             if word.is_empty() {
@@ -142,7 +143,8 @@ impl<'a> fmt::Display for Shown<'a> {
             return Ok(());
         };
         write!(f, "clock {}", book.clock())?;
-        for at in 0..4 {
+        // A book tells its classes and its rows by their numbers.
+        for at in 0..book.settings().class_count() {
             show_class(f, book, at)?;
         }
         for stream in 0..=LAST_STREAM {

@@ -135,8 +135,8 @@ pub fn parse<C: FromLine>(line: &[u8]) -> Result<Option<C>, NotUnderstood>
     if says_nothing(first) {
         return Ok(None);
     }
-    match C::from_line(first, &mut words) {
-        Some(command) => Ok(Some(command)),
-        None => Err(NotUnderstood),
-    }
+    let Some(command) = C::from_line(first, &mut words) else {
+        return Err(NotUnderstood);
+    };
+    Ok(Some(command))
 }

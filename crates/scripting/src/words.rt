@@ -121,6 +121,7 @@ fn numeral(word: &[u8], most: u64) -> Option<u64>
     Some(value)
 }
 
+// Four short impls: one for all integers would leave no room for what else a word can say.
 impl FromWord for u8 {
     ghost says = { numeral 255 };
 

@@ -25,7 +25,8 @@ impl Sums<'_> {
         ensures { result ≡ demand (numbers_of self.now.settings.now) self.now.rows.now class }
     {
         let mut sum = u64::from(frames::LONGEST_ON_WIRE) + u64::from(self.settings.dead_time());
-        // A loop and no chain: that the sum fits is shown turn by turn, and for a chain it did not close.
+        // A loop and no chain: that the sum fits is shown turn by turn, and for a chain it did not close. Without its last class,
+        // since a range that has it ends in two ways.
         for faster in 0..class + 1 {
             sum += self.settings.times(class, faster) * rows::booked(self.rows, faster);
         }

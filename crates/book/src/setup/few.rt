@@ -2,7 +2,8 @@ ghost use Rattle.std.specs.Prelude.{◌≡◌, ◌<◌, ◌≤◌, length, take,
 
 use std::alloc::AllocError;
 
-// Up to N items, in their order. Places of the array past the count are not used.
+// Up to N items, in their order. Places of the array past the count are not used. No list on the heap: settings are copied,
+// and their check must not fail for want of memory.
 pub(crate) struct Few<T, const N: usize> {
     count: usize,
     items: [T; N],

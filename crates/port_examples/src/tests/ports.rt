@@ -40,7 +40,7 @@ enum Came {
     Left(usize, Option<u64>),
 }
 
-// A refusal of a port or of its book by its number.
+// A refusal of a port or of its book by its number, since they are faults of two types.
 #[derive(Clone, Copy, PartialEq, Eq, Debug)]
 struct Refused(u8);
 

@@ -1,9 +1,9 @@
-ghost use Rattle.std.specs.Prelude.{◌≡◌, IfOk};
+ghost use Rattle.std.specs.Prelude.{◌≡◌, ◌≤◌, IfOk, vec_items, vec_capacity};
 ghost use Rattle.std.specs.Option.{option_map};
 ghost use Rattle.book.specs.Told.{told_by};
 ghost use Rattle.book.specs.Books.{state_of};
 ghost use Rattle.scripting.specs.Notes.{in_hand};
-ghost use Rattle.scripting.specs.Benches.{bench_of, empty_bench, with_book, used_up, told_in, class_noted, input_noted, set_of, shown, carried_out};
+ghost use Rattle.scripting.specs.Benches.{bench_of, empty_bench, with_book, used_up, told_in, noted, class_noted, input_noted, set_of, shown, carried_out};
 
 use crate::answers::{Done, Refusal};
 use crate::bench::Bench;
@@ -22,6 +22,17 @@ const MOST_CLASSES: usize = 5;
 const MOST_INPUTS: usize = 9;
 // The number of the one module's book.
 const NUMBER: u64 = 0;
+
+// One more is noted, unless so many are.
+fn note<T: Copy>(list: &mut Vec<T>, most: usize, item: T)
+    requires { most ≤ vec_capacity list.old }
+    ensures items { vec_items list.new ≡ noted most (vec_items list.old) item }
+    ensures room { vec_capacity list.new ≡ vec_capacity list.old }
+{
+    if list.len() < most {
+        list.push_reserved(item);
+    }
+}
 
 impl Bench {
     // An empty bench: no book is set, and nothing is named.
@@ -90,14 +101,11 @@ impl Bench {
         self.desk.clear()
     }
 
-    // Two lists with two limits, told by definitions of their own.
     fn add_class(&mut self, class: Class) -> Done
         ensures answer { Ok result ≡ (class_noted (bench_of self.old) class).0 }
         ensures next { bench_of self.new ≡ (class_noted (bench_of self.old) class).1 }
     {
-        if self.classes.len() < MOST_CLASSES {
-            self.classes.push_reserved(class);
-        }
+        note(&mut self.classes, MOST_CLASSES, class);
         Done::Noted
     }
 
@@ -105,9 +113,7 @@ impl Bench {
         ensures answer { Ok result ≡ (input_noted (bench_of self.old) phase).0 }
         ensures next { bench_of self.new ≡ (input_noted (bench_of self.old) phase).1 }
     {
-        if self.inputs.len() < MOST_INPUTS {
-            self.inputs.push_reserved(phase);
-        }
+        note(&mut self.inputs, MOST_INPUTS, phase);
         Done::Noted
     }
 

@@ -90,7 +90,7 @@ impl<M: Booked> Desk<M> {
         ensures none { (s : ℕ) → s < 128 → place_of self.new.notes s ≡ None }
     {
         let mut dropped = [false; STREAMS];
-        // The streams are numbers, told to the calls; a closure that changes the desk would leave its steps to prove.
+        // The number of a stream is what a call is told; a closure that changes the desk would leave its steps to prove.
         for stream in 0..128 {
             dropped[stream as usize] = self.drop_note(stream).is_ok();
         }

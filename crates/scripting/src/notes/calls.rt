@@ -1,4 +1,4 @@
-ghost use Rattle.std.specs.Prelude.{◌≡◌, ℕ, ◌<◌, Some, None, slice_set};
+ghost use Rattle.std.specs.Prelude.{◌≡◌, ℕ, ◌<◌, Some, None, IfOk, slice_set};
 ghost use Rattle.scripting.specs.Notes.{place_of};
 
 use crate::notes::{Blank, Notes};
@@ -8,7 +8,9 @@ use std::alloc::{AllocError, Global};
 use std::mem;
 
 impl Blank {
-    pub fn new(heap: Global) -> Result<Blank, AllocError> {
+    pub fn new(heap: Global) -> Result<Blank, AllocError>
+        ensures { IfOk result (λ b. ((s : ℕ) → s < 128 → place_of b.notes s ≡ None)) }
+    {
         let mut places = Vec::with_capacity(heap, STREAMS)?;
         // What fills a list in copies its item, and a place for a note cannot be copied.
         for _ in 0..STREAMS {
