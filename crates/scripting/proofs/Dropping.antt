@@ -47,15 +47,6 @@ pub record Dropping (from now : Option BookState) (marks : List Bool) (s : ℕ) 
   pub gone : (k : ℕ) → k < s → note_at now k ≡ None
   pub left : (k : ℕ) → s ≤ k → note_at now k ≡ note_at from k
 
-pub dropping-none : (from : Option BookState) (marks : List Bool) → length marks ≡ 128 → Dropping from from marks 0
-dropping-none from marks e =
-    record {
-      places = e;
-      marked = λ k h. absurd (omega arith);
-      gone = λ k h. absurd (omega arith);
-      left = λ k h. refl;
-    }
-
 pub dropping-more : (from now next : Option BookState) (marks : List Bool) (s : ℕ) (a : Answer) (r : Bool) → s < 128 → Full now → a ≡ (drop_done now s).0
     → next ≡ (drop_done now s).1 → r ≡ is_ok a → Dropping from now marks s → Dropping from next (set marks s r) (s + 1)
 dropping-more from now next marks s a r h f p q e d =

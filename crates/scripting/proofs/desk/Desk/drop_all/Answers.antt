@@ -1,9 +1,6 @@
 use Rattle.std.proofs.Common.{◌∙◌, rules}
-use Rattle.scripting.proofs.Dropping.{dropping-none, dropping-more, dropping-all}
+use Rattle.scripting.proofs.Dropping.{dropping-more, dropping-all}
 use Rattle.scripting.proofs.desk.Desk.drop_all.Goals as goal
-
-pub loop-stream-init : goal.loop-stream-init
-loop-stream-init g c = dropping-none _ _ (search rules)
 
 pub loop-stream-preserved : goal.loop-stream-preserved
 loop-stream-preserved g c =
