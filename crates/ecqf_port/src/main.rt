@@ -10,6 +10,7 @@ use std::io::BufWriter;
 
 mod answers;
 mod bench;
+mod desk;
 mod kinds;
 mod lines;
 mod printing;

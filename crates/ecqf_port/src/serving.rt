@@ -11,9 +11,9 @@ use crate::bench::Bench;
 use crate::kinds::{PlacerKind, RackKind};
 use crate::lines::Lines;
 use crate::printing::Departures;
-use crate::ready;
 use crate::ready::{Memory, Ready};
 use crate::script::Command;
+use crate::{desk, ready};
 use book::frames::SHORTEST_ON_WIRE;
 use book::ledger::Book;
 use book::rows::STREAMS;
@@ -81,7 +81,7 @@ fn run_port<R: Rack<Item = Mark>, P: Placer>(
     until: u64,
     places: Option<u32>,
 ) -> Result<Vec<Departure<Mark>>, Refusal> {
-    let Some(port) = &mut desk.module else {
+    let Some(port) = &desk.module else {
         return Err(Refusal::Book(BookRefusal::NothingSet));
     };
     let places = list_places(port.clock(), until, places);
@@ -93,8 +93,10 @@ fn run_port<R: Rack<Item = Mark>, P: Placer>(
         load: Mark::new(0, 0, 0),
     };
     let mut list = vec![in heap; nothing; places as usize]?;
-    let count = port.run(until, list.as_mut_slice())?;
-    list.truncate(count);
+    let Some(sent) = desk::run(desk, until, list.as_mut_slice()) else {
+        return Err(Refusal::Book(BookRefusal::NothingSet));
+    };
+    list.truncate(sent?);
     Ok(list)
 }
 
@@ -111,16 +113,16 @@ fn port_answer<R: Rack<Item = Mark>, P: Placer>(
         }
         Command::Book(BookCommand::Advance(_)) => Err(Refusal::PortRuns),
         Command::Frame { input, stamp, mark } => {
-            let Some(port) = &mut desk.module else {
+            let Some(placed) = desk::frame(desk, input, stamp, mark) else {
                 return Err(Refusal::Book(BookRefusal::NothingSet));
             };
-            Ok(Done::Cycle(port.frame(input, stamp, mark)?))
+            Ok(Done::Cycle(placed?))
         }
         Command::Filler(length) => {
-            let Some(port) = &mut desk.module else {
+            let (Some(filled), Some(port)) = (desk::filler(desk, length), &desk.module) else {
                 return Err(Refusal::Book(BookRefusal::NothingSet));
             };
-            port.filler(length)?;
+            filled?;
             Ok(Done::TakenUntil(port.wire()))
         }
         _ => bench.carry_out(command),

@@ -4,7 +4,7 @@ use Rattle.book.specs.Books.{state_of}
 use Rattle.scripting.proofs.Pairing.{Fitting, kept-fits}
 use Rattle.ecqf_port.specs.Desks.{book_of}
 use Rattle.ecqf_port.proofs.Running.{ran-kept, ran-length}
-use Rattle.ecqf_port.proofs.serving.run_port.Goals as goal
+use Rattle.ecqf_port.proofs.desk.run.Goals as goal
 
 pub invariant_of-desk-2 : goal.invariant_of-desk-2
 invariant_of-desk-2 g c =
