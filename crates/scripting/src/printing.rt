@@ -69,12 +69,13 @@ impl<W: Write + Drop> Page<W> {
             if word.is_empty() {
                 break;
             }
-            self.text(" ");
+            self.bytes(b" ");
             self.bytes(word);
         }
-        self.text(" => ");
+        // What is the same in every line is written as it stands: formatting it would take a fifth of the line's time.
+        self.bytes(b" => ");
         self.text(answer);
-        self.text("\n");
+        self.bytes(b"\n");
     }
 
     // A line for each note that was dropped, by rising stream.
